@@ -38,7 +38,7 @@ words_for_c() {
 
 # A file that includes our headers and the server's, the server's first or last, and uses names of both: ORDER
 both_headers() {
-    ours='#include "gaz_one.h"
+    ours='#include "gaz_one_all.h"
 #include "gaz_text.h"'
     if [ "$1" = first ]; then
         printf '#include "mdl.h"\n%s\n' "$ours"
@@ -64,7 +64,7 @@ read_headers() {
         sh make/skipped.sh 'the headers for C as C++' 'g++ is missing'
         return
     fi
-    read_beside first g++ -x c++ && read_beside last g++ -x c++
+    read_beside first g++ -x c++ -std=c++17 && read_beside last g++ -x c++ -std=c++17
 }
 
 try_c() {

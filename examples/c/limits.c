@@ -8,9 +8,7 @@
 #define NAME(text) (const uint8_t *)(text), strlen(text)
 #define TABLE(name) GAZ_TABLE, NAME("shop"), NAME(name)
 
-enum { PLACES = 256, SESSIONS = 1024, STEP = 31, RING = 64, LONGEST = 64, TICKETS = 65535, MANY = 4096, FEW = 4, TURNS = 300, CODES = 51, TOLD = 20 };
-
-static const char bytes_of_names[] = "abcdefghijklmnopqrstuvwxyz0123456789_";
+enum { PLACES = 256, SESSIONS = 1024, STEP = 31, RING = 64, LONGEST = 255, LETTERS = 26, LAST_CHARACTER = 0x10ffff, TICKETS = 65535, MANY = 4096, FEW = 4, TURNS = 300, CODES = 51, TOLD = 20 };
 
 static struct gaz_one_space space = GAZ_ONE_SPACE_INIT;
 static bool seen[CODES]; /* which codes calls returned */
@@ -72,13 +70,13 @@ static void check_key(uint16_t place, const uint8_t *text, size_t schema_wanted,
     CHECK(memcmp(schema, text, schema_wanted) == 0 && memcmp(table, text, table_wanted) == 0);
 }
 
-/* Names of 1 to 64 bytes, of all bytes that names may have, are taken and written as they are. */
+/* Names of 1 to 255 bytes are taken, and written as they are. */
 static void name_keys(void)
 {
     uint8_t text[LONGEST + 1];
     uint16_t place = 0;
     for (size_t at = 0; at <= LONGEST; at += 1)
-        text[at] = (uint8_t)bytes_of_names[at % strlen(bytes_of_names)];
+        text[at] = (uint8_t)('a' + at % LETTERS);
     EXPECT(GAZ_DONE, gaz_one_open(&space, PLACES, 1));
     for (uint16_t length = 1; length <= LONGEST; length += 1) {
         EXPECT(GAZ_DONE, gaz_one_table(&space, 1, text, LONGEST + 1 - length, text, length, &place));
@@ -87,17 +85,83 @@ static void name_keys(void)
     }
     EXPECT(GAZ_EMPTY_NAME, gaz_one_table(&space, 1, text, 1, text, 0, &place));
     EXPECT(GAZ_EMPTY_NAME, gaz_one_schema(&space, 1, text, 0, &place));
-    EXPECT(GAZ_EMPTY_NAME, gaz_one_table(&space, 1, text, 0, (const uint8_t *)"-", 1, &place));
-    EXPECT(GAZ_BAD_BYTE, gaz_one_table(&space, 1, text, 0, (const uint8_t *)"\xff", 1, &place));
+    EXPECT(GAZ_EMPTY_NAME, gaz_one_table(&space, 1, text, 0, text, LONGEST + 1, &place));
+    EXPECT(GAZ_BAD_BYTE, gaz_one_table(&space, 1, text, 0, NAME("\xff"), &place));
     EXPECT(GAZ_LONG_NAME, gaz_one_table(&space, 1, text, LONGEST + 1, text, 1, &place));
     EXPECT(GAZ_LONG_NAME, gaz_one_table(&space, 1, text, 1, text, LONGEST + 1, &place));
     EXPECT(GAZ_LONG_NAME, gaz_one_schema(&space, 1, text, LONGEST + 1, &place));
+    EXPECT(GAZ_LONG_NAME, gaz_one_user_lock(&space, 1, text, LONGEST + 1, &place));
     EXPECT(GAZ_DONE, gaz_one_schema(&space, 1, text, LONGEST, &place));
     CHECK(place == LONGEST + 1);
-    for (unsigned byte = 0; byte < 256; byte += 1) {
-        bool fits = byte != 0 && strchr(bytes_of_names, (int)byte) != NULL;
-        EXPECT(fits ? GAZ_DONE : GAZ_BAD_BYTE, gaz_one_schema(&space, 1, &(uint8_t){(uint8_t)byte}, 1, &place));
+    EXPECT(GAZ_DONE, gaz_one_close(&space));
+}
+
+/* Writes a character as UTF-8, and returns how many bytes it has. */
+static size_t encode(uint32_t character, uint8_t *bytes)
+{
+    if (character < 0x80) {
+        bytes[0] = (uint8_t)character;
+        return 1;
     }
+    size_t count = character < 0x800 ? 2 : character < 0x10000 ? 3 : 4;
+    for (size_t at = count - 1; at > 0; at -= 1) {
+        bytes[at] = (uint8_t)(0x80 | (character & 0x3f));
+        character >>= 6;
+    }
+    bytes[0] = (uint8_t)(0xf00 >> count | character);
+    return count;
+}
+
+/* Each character of Unicode is a name, and other bytes are none. */
+static void name_characters(void)
+{
+    static const char *const others[] = {"\x80", "a\xbf", "\xc3", "\xc3(", "\xc0\xaf", "\xc1\xbf", "\xe2\x82", "\xe2\x28\xa1", "\xe0\x9f\xbf",
+                                         "\xf0\x90\x80", "\xf0\x8f\xbf\xbf", "\xf4\x90\x80\x80", "\xf5\x80\x80\x80", "\xfe", "\xff"};
+    uint8_t bytes[4];
+    uint16_t place = 0;
+    EXPECT(GAZ_DONE, gaz_one_open(&space, 1, 1));
+    for (uint32_t character = 0; character <= LAST_CHARACTER; character += 1) {
+        bool is_one = character < 0xd800 || character > 0xdfff; /* the others stand for halves of characters, in UTF-16 */
+        EXPECT(is_one ? GAZ_DONE : GAZ_BAD_BYTE, gaz_one_schema(&space, 1, bytes, encode(character, bytes), &place));
+        if (is_one)
+            EXPECT(GAZ_DONE, gaz_one_unpin(&space, 1, place));
+    }
+    for (size_t at = 0; at < sizeof others / sizeof *others; at += 1)
+        EXPECT(GAZ_BAD_BYTE, gaz_one_user_lock(&space, 1, NAME(others[at]), &place));
+    EXPECT(GAZ_DONE, gaz_one_close(&space));
+}
+
+/* Names whose bytes differ are names of different keys, however they look. */
+static void compare_names(void)
+{
+    static const char *const names[] = {"cafe", "CAFE", "caf\u00e9", "CAF\u00c9", "cafe\u0301", "cafe ", "\u8868", "\u8868\u8868"};
+    uint16_t place = 0;
+    EXPECT(GAZ_DONE, gaz_one_open(&space, PLACES, 1));
+    for (unsigned round = 0; round < 2; round += 1)
+        for (uint16_t at = 0; at < sizeof names / sizeof *names; at += 1) {
+            EXPECT(GAZ_DONE, gaz_one_table(&space, 1, NAME("shop"), NAME(names[at]), &place));
+            CHECK(place == at + 1);
+        }
+    EXPECT(GAZ_DONE, gaz_one_close(&space));
+}
+
+/* A null pointer with length 0 is an empty name, for each call that takes names. */
+static void name_nothing(void)
+{
+    uint64_t ticket = 0;
+    uint16_t place = 0;
+    EXPECT(GAZ_DONE, gaz_one_open(&space, PLACES, 1));
+    EXPECT(GAZ_EMPTY_NAME, gaz_one_table(&space, 1, NULL, 0, NAME("orders"), &place));
+    EXPECT(GAZ_EMPTY_NAME, gaz_one_table(&space, 1, NAME("shop"), NULL, 0, &place));
+    EXPECT(GAZ_EMPTY_NAME, gaz_one_schema(&space, 1, NULL, 0, &place));
+    EXPECT(GAZ_EMPTY_NAME, gaz_one_user_lock(&space, 1, NULL, 0, &place));
+    EXPECT(GAZ_DONE, gaz_one_context_begin(&space, 1));
+    EXPECT(GAZ_EMPTY_NAME, gaz_one_acquire(&space, 1, GAZ_TABLE, NULL, 0, NULL, 0, GAZ_SR, GAZ_STATEMENT, &ticket));
+    EXPECT(GAZ_DONE, gaz_one_acquire(&space, 1, GAZ_GLOBAL, NULL, 0, NULL, 0, GAZ_IX, GAZ_STATEMENT, &ticket));
+    EXPECT(GAZ_DONE, gaz_one_try_acquire(&space, 1, GAZ_SCHEMA, NAME("shop"), NULL, 0, GAZ_IX, GAZ_STATEMENT, &ticket));
+    EXPECT(GAZ_DONE, gaz_one_holds(&space, 1, GAZ_GLOBAL, NULL, 0, NULL, 0, GAZ_IX));
+    EXPECT(GAZ_DONE, gaz_one_release_name(&space, 1, GAZ_GLOBAL, NULL, 0, NULL, 0));
+    EXPECT(GAZ_NOT_KEPT, gaz_one_holds(&space, 1, GAZ_GLOBAL, NULL, 0, NULL, 0, GAZ_IX));
     EXPECT(GAZ_DONE, gaz_one_close(&space));
 }
 
@@ -278,10 +342,12 @@ static void fill_a_context(void)
 /* Each session has a context, and shares a table of the longest name. */
 static void share_a_table(void)
 {
-    static const char name[] = "a_name_of_just_so_many_bytes_as_a_schema_and_a_table_may_have_64";
+    char name[LONGEST + 1];
     struct gaz_lock locks[SESSIONS];
     uint64_t ticket = 0;
     size_t count = 0;
+    memset(name, 'a', LONGEST);
+    name[LONGEST] = 0;
     EXPECT(GAZ_DONE, gaz_one_open(&space, 1, SESSIONS));
     for (uint16_t who = 1; who <= SESSIONS; who += 1) {
         EXPECT(GAZ_DONE, gaz_one_context_begin(&space, who));
@@ -505,7 +571,10 @@ int main(void)
     open_managers();
     printf("managers of 1 to %d places and 1 to %d sessions\n", PLACES, SESSIONS);
     name_keys();
-    printf("names of 1 to %d bytes, of %zu kinds\n", LONGEST, strlen(bytes_of_names));
+    name_characters();
+    compare_names();
+    name_nothing();
+    printf("names of 1 to %d bytes of UTF-8\n", LONGEST);
     fill_places();
     printf("keys at all places\n");
     compare_modes();

@@ -7,7 +7,7 @@
 #define NAME(text) (const uint8_t *)(text), strlen(text)
 #define TABLE(name) GAZ_TABLE, NAME("shop"), NAME(name)
 
-enum { SESSIONS = 3, NAME_ROOM = 64, LOCK_ROOM = 8 };
+enum { SESSIONS = 3, NAME_ROOM = 255, LOCK_ROOM = 8 };
 
 static const char *const namespaces[] = {"GLOBAL", "SCHEMA", "TABLE", "COMMIT", "USER"};
 static const char *const modes[] = {"IX", "S", "SH", "SR", "SW", "SWLP", "SU", "SRO", "SNW", "SNRW", "X"};

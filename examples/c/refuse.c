@@ -1,7 +1,7 @@
 /* A program that brings the three functions of the heap itself. It refuses each allocation of two short lives in turn, of three sessions whose
    direct calls it makes, and of two with contexts: the call that is refused for that is made again, and nothing is lost. (A context can do without the
    first note of where a key was.) In the end each block is freed: those of a context as soon as it ends, and those of a manager when it is closed. */
-#include "gaz_one.h"
+#include "gaz_one_all.h"
 
 #include <stdio.h>
 #include <stdlib.h>
@@ -138,6 +138,9 @@ static void come_and_go(struct gaz_one_space *space, uint16_t who)
 static void call_in_contexts(void)
 {
     struct gaz_one_space space = GAZ_ONE_SPACE_INIT;
+    struct gaz_request wanted[] = {{NAME("shop"), NAME("prices"), 0, GAZ_TABLE, GAZ_SW, GAZ_TRANSACTION},
+                                   {NAME("shop"), NAME("items"), 0, GAZ_TABLE, GAZ_SW, GAZ_TRANSACTION}};
+    struct gaz_requests all = GAZ_REQUESTS_INIT(wanted, 2);
     struct gaz_mark mark = {0, 0};
     uint64_t writer = 0, ticket = 0, number = 0;
     EXPECT(GAZ_DONE, gaz_one_open(&space, 16, 2));
@@ -166,6 +169,8 @@ static void call_in_contexts(void)
     EXPECT_KEPT(2, GAZ_DONE, gaz_one_acquire(&space, 2, TABLE("items"), GAZ_SR, GAZ_TRANSACTION, &number));
     EXPECT(GAZ_DONE, gaz_one_set_duration(&space, 2, number, GAZ_EXPLICIT));
     EXPECT(GAZ_DONE, gaz_one_context_release(&space, 2, number));
+    EXPECT_KEPT(2, GAZ_DONE, gaz_one_acquire_all(&space, 2, &all));
+    EXPECT_KEPT(2, GAZ_DONE, gaz_one_end_transaction(&space, 2));
     EXPECT_KEPT(1, GAZ_WAITING, gaz_one_context_upgrade(&space, 1, writer, GAZ_X, &ticket));
     /* Both contexts end with a ticket, and the first one with a wait. */
     EXPECT(GAZ_DONE, gaz_one_context_end(&space, 1));

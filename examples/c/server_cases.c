@@ -10,7 +10,7 @@
    - the tests of MDL_key that cut names that are too long: they are refused
    - the count of locks that nobody uses: a place without pins is given to the next key
    - the tests of threads that race for the fast path of a lock: threads make their calls here one at a time */
-#include "gaz_one.h"
+#include "gaz_one_all.h"
 
 #include <stdio.h>
 #include <string.h>
@@ -22,7 +22,7 @@
 #define COMMIT GAZ_COMMIT, NAME(""), NAME("")
 #define USER(name) GAZ_USER_LEVEL_LOCK, NAME(name), NAME("")
 
-enum { PLACES = 16, SESSIONS = 4, ROOM = 8 };
+enum { PLACES = 16, SESSIONS = 4, ROOM = 8, LONGEST = 255 };
 
 static struct gaz_one_space space = GAZ_ONE_SPACE_INIT;
 static unsigned cases, wrong;
@@ -584,10 +584,156 @@ static void find_lock_owner(void)
 /* A name that is too long is refused. (The server cuts it off.) */
 static void truncate_too_long_name(void)
 {
-    static const char name[] = "a2345678901234567890123456789012345678901234567890123456789012345";
+    char name[LONGEST + 2];
     uint64_t ticket = 0;
+    memset(name, 'a', LONGEST + 1);
+    name[LONGEST + 1] = 0;
     EXPECT(GAZ_LONG_NAME, acquire(1, name, GAZ_S, &ticket));
     EXPECT(GAZ_DONE, acquire(1, name + 1, GAZ_S, &ticket));
+}
+
+/* A request of a lock, and one of a table's until the transaction ends. */
+static struct gaz_request request_of(uint8_t namespace, const char *schema, const char *table, uint8_t mode, uint8_t duration)
+{
+    return (struct gaz_request){.schema = (const uint8_t *)schema, .schema_length = strlen(schema), .table = (const uint8_t *)table,
+                                .table_length = strlen(table), .namespace_ = namespace, .mode = mode, .duration = duration};
+}
+
+static struct gaz_request table_request(const char *table, uint8_t mode)
+{
+    return request_of(GAZ_TABLE, "db", table, mode, GAZ_TRANSACTION);
+}
+
+/* Several locks are acquired in the order of their keys: by namespace, and by names, of which one goes before those that it begins. */
+static void acquire_all_in_order(void)
+{
+    struct gaz_request wanted[] = {request_of(GAZ_USER_LEVEL_LOCK, "a", "", GAZ_X, GAZ_EXPLICIT), table_request("t2", GAZ_SR), table_request("t10", GAZ_SW),
+                                   {.namespace_ = GAZ_COMMIT, .mode = GAZ_IX, .duration = GAZ_TRANSACTION}, table_request("t1", GAZ_X),
+                                   request_of(GAZ_TABLE, "da", "t9", GAZ_SH, GAZ_STATEMENT), {.namespace_ = GAZ_GLOBAL, .mode = GAZ_IX}};
+    struct gaz_requests all = GAZ_REQUESTS_INIT(wanted, sizeof wanted / sizeof *wanted);
+    struct gaz_ticket tickets[ROOM];
+    size_t count = 0;
+    EXPECT(GAZ_DONE, gaz_one_acquire_all(&space, 1, &all));
+    EXPECT(GAZ_DONE, gaz_one_held(&space, 1, tickets, ROOM, &count));
+    CHECK(count == all.count);
+    for (size_t at = 0; at < count; at += 1)
+        CHECK(wanted[at].ticket == tickets[at].ticket && wanted[at].mode == tickets[at].mode);
+    CHECK(wanted[0].namespace_ == GAZ_GLOBAL && wanted[1].mode == GAZ_SH && wanted[2].mode == GAZ_X && wanted[3].mode == GAZ_SW);
+    CHECK(wanted[4].mode == GAZ_SR && wanted[5].namespace_ == GAZ_COMMIT && wanted[6].namespace_ == GAZ_USER_LEVEL_LOCK);
+    all.count = 0;
+    EXPECT(GAZ_DONE, gaz_one_acquire_all(&space, 1, &all));
+    EXPECT(GAZ_DONE, gaz_one_try_all(&space, 1, &all));
+}
+
+/* All locks can be had without waiting, or none is: explicit ones go, too, and what the session had before stays. */
+static void try_all_or_none(void)
+{
+    struct gaz_request wanted[] = {table_request("t3", GAZ_SR), table_request("t1", GAZ_SW), table_request("t2", GAZ_SR),
+                                   request_of(GAZ_TABLE, "db", "t1", GAZ_SR, GAZ_EXPLICIT), request_of(GAZ_TABLE, "db", "t1", GAZ_SH, GAZ_EXPLICIT)};
+    struct gaz_requests all = GAZ_REQUESTS_INIT(wanted, 5);
+    uint64_t first = 0, ticket = 0;
+    EXPECT(GAZ_DONE, acquire(1, "t2", GAZ_SW, &first));
+    EXPECT(GAZ_DONE, acquire(2, "t3", GAZ_X, &ticket));
+    EXPECT(GAZ_WOULD_WAIT, gaz_one_try_all(&space, 1, &all));
+    CHECK(tickets_of(1) == 1 && is_owner(1, "t2", GAZ_SW) && !is_owner(1, "t1", GAZ_SH));
+    for (size_t at = 0; at < all.count; at += 1)
+        CHECK(wanted[at].ticket == 0);
+    EXPECT(GAZ_DONE, gaz_one_end_transaction(&space, 2));
+    EXPECT(GAZ_DONE, gaz_one_try_all(&space, 1, &all));
+    CHECK(tickets_of(1) == 5 && is_owner(1, "t1", GAZ_SW) && is_owner(1, "t3", GAZ_SR) && wanted[3].ticket == first);
+}
+
+/* All locks are waited for, one after the other, each of the session's waits until it is granted. */
+static void acquire_all_goes_on(void)
+{
+    struct gaz_request wanted[] = {table_request("t3", GAZ_SR), table_request("t2", GAZ_SR), table_request("t1", GAZ_SR)};
+    struct gaz_requests all = GAZ_REQUESTS_INIT(wanted, 3);
+    uint64_t first = 0, third = 0;
+    EXPECT(GAZ_DONE, acquire(2, "t1", GAZ_X, &first));
+    EXPECT(GAZ_DONE, acquire(2, "t3", GAZ_X, &third));
+    EXPECT(GAZ_WAITING, gaz_one_acquire_all(&space, 1, &all));
+    EXPECT(GAZ_WAITING, gaz_one_acquire_all(&space, 1, &all));
+    CHECK(tickets_of(1) == 0);
+    EXPECT(GAZ_DONE, gaz_one_context_release(&space, 2, first));
+    CHECK(is_woken(1));
+    EXPECT(GAZ_WAITING, gaz_one_acquire_all(&space, 1, &all));
+    CHECK(is_owner(1, "t1", GAZ_SR) && is_owner(1, "t2", GAZ_SR) && !is_owner(1, "t3", GAZ_SR));
+    EXPECT(GAZ_DONE, gaz_one_end_transaction(&space, 2));
+    EXPECT(GAZ_DONE, gaz_one_acquire_all(&space, 1, &all));
+    CHECK(tickets_of(1) == 3 && is_owner(1, "t3", GAZ_SR));
+    EXPECT(GAZ_DONE, gaz_one_context_release(&space, 1, wanted[2].ticket));
+    CHECK(!is_owner(1, "t3", GAZ_SR) && is_owner(1, "t2", GAZ_SR));
+}
+
+/* If a wait for one of them is lost, all go, and may be requested again. */
+static void acquire_all_lost(void)
+{
+    struct gaz_request wanted[] = {table_request("t2", GAZ_SW), table_request("t1", GAZ_SW), request_of(GAZ_TABLE, "db", "t1", GAZ_SR, GAZ_EXPLICIT)};
+    struct gaz_requests all = GAZ_REQUESTS_INIT(wanted, 3);
+    uint64_t ticket = 0, number = 0;
+    EXPECT(GAZ_DONE, acquire(1, "t1", GAZ_SR, &ticket));
+    EXPECT(GAZ_DONE, acquire(2, "t2", GAZ_SRO, &ticket));
+    EXPECT(GAZ_WAITING, gaz_one_acquire_all(&space, 1, &all));
+    EXPECT(GAZ_WAITING, acquire(3, "t1", GAZ_SRO, &ticket));
+    EXPECT(GAZ_TIMEOUT, gaz_one_time_out(&space, 1));
+    EXPECT(GAZ_TIMEOUT, gaz_one_acquire_all(&space, 1, &all));
+    CHECK(tickets_of(1) == 1 && is_owner(1, "t1", GAZ_SR) && is_woken(3) && wanted[0].ticket == 0);
+    EXPECT(GAZ_DONE, gaz_one_resume(&space, 3, &ticket));
+    EXPECT(GAZ_DONE, gaz_one_end_transaction(&space, 3));
+    EXPECT(GAZ_WAITING, gaz_one_acquire_all(&space, 1, &all));
+    EXPECT(GAZ_DONE, gaz_one_wait_of(&space, 1, &number));
+    EXPECT(GAZ_DONE, gaz_one_kill(&space, 1, number));
+    EXPECT(GAZ_KILLED, gaz_one_acquire_all(&space, 1, &all));
+    EXPECT(GAZ_NO_WAIT, gaz_one_poll(&space, 1));
+    EXPECT(GAZ_DONE, gaz_one_end_transaction(&space, 2));
+    EXPECT(GAZ_DONE, gaz_one_acquire_all(&space, 1, &all));
+    CHECK(tickets_of(1) == 4);
+}
+
+/* The victim of a deadlock gives up what it has acquired with the others, and what it had before stays: it has to end its transaction. */
+static void acquire_all_as_victim(void)
+{
+    struct gaz_request writes[] = {table_request("t1", GAZ_SW), table_request("t2", GAZ_SW)};
+    struct gaz_request changes[] = {table_request("t5", GAZ_X), table_request("t2", GAZ_X)};
+    struct gaz_requests writer = GAZ_REQUESTS_INIT(writes, 2), changer = GAZ_REQUESTS_INIT(changes, 2);
+    uint64_t ticket = 0;
+    EXPECT(GAZ_DONE, acquire(1, "t5", GAZ_SW, &ticket));
+    EXPECT(GAZ_WAITING, gaz_one_acquire_all(&space, 2, &changer));
+    EXPECT(GAZ_WAITING, gaz_one_acquire_all(&space, 1, &writer));
+    CHECK(is_woken(1));
+    EXPECT(GAZ_VICTIM, gaz_one_acquire_all(&space, 1, &writer));
+    CHECK(!is_owner(1, "t1", GAZ_SW) && is_owner(1, "t5", GAZ_SW));
+    EXPECT(GAZ_DONE, gaz_one_end_transaction(&space, 1));
+    EXPECT(GAZ_DONE, gaz_one_acquire_all(&space, 2, &changer));
+    CHECK(is_owner(2, "t2", GAZ_X) && is_owner(2, "t5", GAZ_X));
+}
+
+/* Two sessions that request the same tables in other orders don't deadlock: the second one waits for the first table, and has none. */
+static void acquire_all_in_other_orders(void)
+{
+    struct gaz_request one[] = {table_request("t1", GAZ_X), table_request("t2", GAZ_X)};
+    struct gaz_request other[] = {table_request("t2", GAZ_X), table_request("t1", GAZ_X)};
+    struct gaz_requests first = GAZ_REQUESTS_INIT(one, 2), second = GAZ_REQUESTS_INIT(other, 2);
+    EXPECT(GAZ_DONE, gaz_one_acquire_all(&space, 1, &first));
+    EXPECT(GAZ_WAITING, gaz_one_acquire_all(&space, 2, &second));
+    CHECK(tickets_of(2) == 0);
+    EXPECT(GAZ_DONE, gaz_one_end_transaction(&space, 1));
+    EXPECT(GAZ_DONE, gaz_one_acquire_all(&space, 2, &second));
+}
+
+/* A request that is refused leaves none of the others. */
+static void acquire_all_refused(void)
+{
+    struct gaz_request wanted[] = {table_request("t1", GAZ_SW), table_request("", GAZ_SW), request_of(GAZ_SCHEMA, "db", "", GAZ_IX, GAZ_TRANSACTION)};
+    struct gaz_requests all = GAZ_REQUESTS_INIT(wanted, 3);
+    EXPECT(GAZ_EMPTY_NAME, gaz_one_acquire_all(&space, 1, &all));
+    EXPECT(GAZ_EMPTY_NAME, gaz_one_try_all(&space, 1, &all));
+    wanted[1] = table_request("t1", GAZ_IX);
+    EXPECT(GAZ_BAD_MODE, gaz_one_try_all(&space, 1, &all));
+    EXPECT(GAZ_BAD_MODE, gaz_one_acquire_all(&space, 1, &all));
+    CHECK(tickets_of(1) == 0);
+    EXPECT(GAZ_NO_SESSION, gaz_one_try_all(&space, SESSIONS + 1, &all));
+    EXPECT(GAZ_NO_SESSION, gaz_one_acquire_all(&space, SESSIONS + 1, &all));
 }
 
 /* Plays a case in a manager of its own. */
@@ -656,6 +802,13 @@ int main(void)
     CASE(namespaces_are_apart);
     CASE(find_lock_owner);
     CASE(truncate_too_long_name);
+    CASE(acquire_all_in_order);
+    CASE(try_all_or_none);
+    CASE(acquire_all_goes_on);
+    CASE(acquire_all_lost);
+    CASE(acquire_all_as_victim);
+    CASE(acquire_all_in_other_orders);
+    CASE(acquire_all_refused);
     printf("%u cases, %u checks that aren't so\n", cases, wrong);
     return wrong > 0;
 }

@@ -33,6 +33,9 @@ OTHER_NAMES = {
     "resume_code ACQUIRED": "DONE",
 }
 
+# The headers that declare nothing of a library: they have code over the others.
+OVER_OTHERS = {"gaz_one_all.h"}
+
 # A definition by cases, one that is a number, one that gives a number to each of a few values, the version of a header, and a row of texts.
 CASE = re.compile(r"^(\w+_code|code_of) (.+) = (\w+)$", re.MULTILINE)
 NUMBER = re.compile(r"^(\w+) = (\d+)$", re.MULTILINE)
@@ -65,7 +68,7 @@ class Headers:
         self.folder = folders[0] / "include"
         self.prefix = prefix
         self.enums = enums
-        texts = [it.read_text() for it in sorted(self.folder.glob("*.h"))]
+        texts = [it.read_text() for it in sorted(self.folder.glob("*.h")) if it.name not in OVER_OTHERS]
         self.text = re.sub(r"/\*.*?\*/", "", "\n".join(texts), flags=re.DOTALL)
         self.specs = "\n".join(re.sub(r"--.*", "", it.read_text()) for folder in folders for it in sorted(folder.glob("specs/*.antt")))
         self.code = "\n".join(it.read_text() for folder in folders for it in sorted(folder.glob("src/**/*.rt")))

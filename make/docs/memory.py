@@ -40,7 +40,10 @@ FRUGAL_IN_PART = {
 }
 
 # The crates whose calls take none, with those of their calls that do: they make a key, which has names.
-FRUGAL_CRATES = {"mdl_key": {"Key::schema", "Key::table", "Key::user_lock"}, "mdl_word": set()}
+FRUGAL_CRATES = {
+    "mdl_key": {"Key::schema", "Key::table", "Key::user_lock", "Key::schema_utf8", "Key::table_utf8", "Key::user_lock_utf8"},
+    "mdl_word": set(),
+}
 
 # The laws by which what a call does takes no memory.
 LAWS = {"Context::downgrade": "endings_take_no_memory"}

@@ -66,9 +66,9 @@ enum gaz_code {
     GAZ_BAD_PLACES = 19,     /* a manager has 1 to 256 places */
     GAZ_BAD_SESSIONS = 20,   /* and 1 to 1024 sessions */
     GAZ_NO_MODE = 21,        /* there is no mode of this number */
-    GAZ_EMPTY_NAME = 22,     /* a name has 1 to 64 bytes of a-z 0-9 _ */
+    GAZ_EMPTY_NAME = 22,     /* a name has 1 to 255 bytes of UTF-8 */
     GAZ_LONG_NAME = 23,
-    GAZ_BAD_BYTE = 24,       /* before all else if a name isn't UTF-8: otherwise the schema's faults come before the table's */
+    GAZ_BAD_BYTE = 24,       /* a name isn't UTF-8: before the other two, of which the schema's come before the table's */
     GAZ_HAS_CONTEXT = 25,    /* a context keeps the session's tickets */
     GAZ_NO_CONTEXT = 26,     /* none does */
     GAZ_SESSION_IN_USE = 27, /* the session holds a ticket, has a wait or pins a place */

@@ -8,10 +8,10 @@
        void rattle_dealloc(void *p);
 
    A program whose threads share a space holds one mutex of its own round each call. The program itself does the waiting: if gaz_one_begin returns
-   GAZ_WAITING, call gaz_one_search, then wait for a condition variable until gaz_one_poll returns something else, and then call gaz_one_end. These calls
-   may settle another session's wait: gaz_one_release, gaz_one_search, gaz_one_end, gaz_one_kill, gaz_one_time_out, gaz_one_downgrade and gaz_one_merge.
-   After them wake the sessions that gaz_one_settled lists. The table that threads share can't be called from C: its calls wait for latches, and no
-   function that C calls may wait.
+   GAZ_WAITING, call gaz_one_search, then wait for a condition variable until gaz_one_poll returns something else, and then call gaz_one_end. If the
+   search returns GAZ_NO_MEMORY, a deadlock may be left: give the wait up by gaz_one_time_out. These calls may settle another session's wait:
+   gaz_one_release, gaz_one_search, gaz_one_end, gaz_one_kill, gaz_one_time_out, gaz_one_downgrade and gaz_one_merge. After them wake the sessions that
+   gaz_one_settled lists. The table that threads share can't be called from C: its calls wait for latches, and no function that C calls may wait.
 
    The program keeps a session's tickets by their numbers, or a context keeps them, from gaz_one_context_begin until gaz_one_context_end: by their
    durations, as a server's transactions need. Then the session requests its locks by gaz_one_acquire and the other calls of contexts below, and those
@@ -24,11 +24,14 @@
    - At most one call at a time uses a space: one thread makes all calls, or a mutex of yours is held round each. Any thread may make the calls of any
      session.
    - The memory behind a pointer doesn't overlap the space or the memory behind the call's other pointers, and is initialised.
-   - A name is a pointer that isn't null and a length below 2^63, and it doesn't change during the call.
+   - A name is a pointer and a length below 2^63, and it doesn't change during the call. The pointer isn't null, unless the length is 0.
    - Room for a list is a pointer that isn't null, even for no entry, and how many entries fit, whose bytes are below 2^63.
    - No call comes from a signal handler, or from the forked child of a process with threads.
    - malloc, realloc and free are of one allocator, and align to 16.
-   For all other arguments a call returns a code: any number may be passed as a session, a place, a ticket, a wait or a mode. */
+   For all other arguments a call returns a code: any number may be passed as a session, a place, a ticket, a wait or a mode.
+
+   A name has 1 to 255 bytes of UTF-8. Names are equal if their bytes are. So a program whose names don't depend on case, or on accents, folds them first,
+   as its own settings want. */
 #ifndef GAZ_ONE_H
 #define GAZ_ONE_H
 
@@ -213,7 +216,7 @@ uint32_t gaz_one_held(struct gaz_one_space *space, uint16_t who, struct gaz_tick
 /* How many places have keys: DONE. They are those from 1 to this number. */
 uint32_t gaz_one_places(struct gaz_one_space *space, size_t *count);
 
-/* The key of a place: DONE, its namespace (enum gaz_namespace), and the names of its schema and its table. A name has 64 bytes at most, and
+/* The key of a place: DONE, its namespace (enum gaz_namespace), and the names of its schema and its table. A name has 255 bytes at most, and
    none if the key lacks it. The name of a user-level lock is written as a schema's. */
 uint32_t gaz_one_key_of(struct gaz_one_space *space, uint16_t place, uint8_t *namespace_, uint8_t *schema, size_t schema_room,
                     size_t *schema_length, uint8_t *table, size_t table_room, size_t *table_length);
@@ -225,6 +228,68 @@ uint32_t gaz_one_locks(struct gaz_one_space *space, uint16_t place, struct gaz_l
 
 /* The text of a code, in English: DONE. It has 80 bytes at most, and no 0 is written after it. For a number that is no code it says so. */
 uint32_t gaz_one_message(uint32_t code, uint8_t *text, size_t room, size_t *length);
+
+/* ---- names of no bytes */
+
+/* The functions of the library take no null pointer. In C and C++ the names of those that take names stand for the functions below, which pass another
+   pointer for a name of no bytes. A program in another language calls those of the library: it passes no null pointer. */
+static inline const uint8_t *gaz_one_name(const uint8_t *name, size_t length)
+{
+    static const uint8_t none[1] = {0};
+    return length > 0 ? name : none;
+}
+
+static inline uint32_t gaz_one_table_inline(struct gaz_one_space *space, uint16_t who, const uint8_t *schema, size_t schema_length,
+                                            const uint8_t *table, size_t table_length, uint16_t *place)
+{
+    return gaz_one_table(space, who, gaz_one_name(schema, schema_length), schema_length, gaz_one_name(table, table_length), table_length, place);
+}
+#define gaz_one_table gaz_one_table_inline
+
+static inline uint32_t gaz_one_schema_inline(struct gaz_one_space *space, uint16_t who, const uint8_t *schema, size_t schema_length, uint16_t *place)
+{
+    return gaz_one_schema(space, who, gaz_one_name(schema, schema_length), schema_length, place);
+}
+#define gaz_one_schema gaz_one_schema_inline
+
+static inline uint32_t gaz_one_user_lock_inline(struct gaz_one_space *space, uint16_t who, const uint8_t *name, size_t name_length, uint16_t *place)
+{
+    return gaz_one_user_lock(space, who, gaz_one_name(name, name_length), name_length, place);
+}
+#define gaz_one_user_lock gaz_one_user_lock_inline
+
+static inline uint32_t gaz_one_acquire_inline(struct gaz_one_space *space, uint16_t who, uint8_t namespace_, const uint8_t *schema, size_t schema_length,
+                                              const uint8_t *table, size_t table_length, uint8_t mode, uint8_t duration, uint64_t *number)
+{
+    return gaz_one_acquire(space, who, namespace_, gaz_one_name(schema, schema_length), schema_length, gaz_one_name(table, table_length), table_length,
+                           mode, duration, number);
+}
+#define gaz_one_acquire gaz_one_acquire_inline
+
+static inline uint32_t gaz_one_try_acquire_inline(struct gaz_one_space *space, uint16_t who, uint8_t namespace_, const uint8_t *schema,
+                                                  size_t schema_length, const uint8_t *table, size_t table_length, uint8_t mode, uint8_t duration,
+                                                  uint64_t *ticket)
+{
+    return gaz_one_try_acquire(space, who, namespace_, gaz_one_name(schema, schema_length), schema_length, gaz_one_name(table, table_length), table_length,
+                               mode, duration, ticket);
+}
+#define gaz_one_try_acquire gaz_one_try_acquire_inline
+
+static inline uint32_t gaz_one_holds_inline(struct gaz_one_space *space, uint16_t who, uint8_t namespace_, const uint8_t *schema, size_t schema_length,
+                                            const uint8_t *table, size_t table_length, uint8_t mode)
+{
+    return gaz_one_holds(space, who, namespace_, gaz_one_name(schema, schema_length), schema_length, gaz_one_name(table, table_length), table_length,
+                         mode);
+}
+#define gaz_one_holds gaz_one_holds_inline
+
+static inline uint32_t gaz_one_release_name_inline(struct gaz_one_space *space, uint16_t who, uint8_t namespace_, const uint8_t *schema,
+                                                   size_t schema_length, const uint8_t *table, size_t table_length)
+{
+    return gaz_one_release_name(space, who, namespace_, gaz_one_name(schema, schema_length), schema_length, gaz_one_name(table, table_length),
+                                table_length);
+}
+#define gaz_one_release_name gaz_one_release_name_inline
 
 #ifdef __cplusplus
 }

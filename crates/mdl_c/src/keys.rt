@@ -1,7 +1,7 @@
 //! The calls that return the place of a key, which the session then pins, and the one that gives up the pin.
 ghost use Rattle.std.specs.Prelude.{◌≡◌};
 ghost use Rattle.std.specs.Str.{IsUtf8};
-ghost use Rattle.mdl_key.specs.Keys.{commit_key, global_key, name_fault, schema_key, table_fault, table_key, user_lock_key};
+ghost use Rattle.mdl_key.specs.Keys.{commit_key, global_key, schema_key, table_key, user_lock_key, utf8_name_fault, utf8_table_fault};
 ghost use Rattle.mdl_calls.specs.Words.{Resolve, Unpin};
 ghost use Rattle.mdl_c_calls.specs.Exports.{Nothing, Number, ServesCall, ServesDirect, Tells};
 ghost use Rattle.mdl_c_calls.specs.Names.{MakesKey};
@@ -19,7 +19,7 @@ pub extern "C" fn gaz_one_table(
     table: &[u8],
     place: &mut u16,
 ) -> u32
-    ensures { MakesKey (IsUtf8 schema.now × IsUtf8 table.now) (table_fault schema.now table.now)
+    ensures { MakesKey (IsUtf8 schema.now × IsUtf8 table.now) (utf8_table_fault schema.now table.now)
         (ServesCall who (Resolve who (table_key schema.now table.now)) space.old.handle.manager result space.new.handle.manager (Number place.old place.new))
         (λ wrong. Tells wrong space.old.handle.manager result space.new.handle.manager × (place.new ≡ place.old)) }
 {
@@ -35,7 +35,7 @@ pub extern "C" fn gaz_one_schema(
     schema: &[u8],
     place: &mut u16,
 ) -> u32
-    ensures { MakesKey (IsUtf8 schema.now) (name_fault schema.now)
+    ensures { MakesKey (IsUtf8 schema.now) (utf8_name_fault schema.now)
         (ServesCall who (Resolve who (schema_key schema.now)) space.old.handle.manager result space.new.handle.manager (Number place.old place.new))
         (λ wrong. Tells wrong space.old.handle.manager result space.new.handle.manager × (place.new ≡ place.old)) }
 {
@@ -51,7 +51,7 @@ pub extern "C" fn gaz_one_user_lock(
     name: &[u8],
     place: &mut u16,
 ) -> u32
-    ensures { MakesKey (IsUtf8 name.now) (name_fault name.now)
+    ensures { MakesKey (IsUtf8 name.now) (utf8_name_fault name.now)
         (ServesCall who (Resolve who (user_lock_key name.now)) space.old.handle.manager result space.new.handle.manager (Number place.old place.new))
         (λ wrong. Tells wrong space.old.handle.manager result space.new.handle.manager × (place.new ≡ place.old)) }
 {

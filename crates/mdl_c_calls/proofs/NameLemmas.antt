@@ -1,8 +1,8 @@
 -- Keys of names, and why none is made.
 use Rattle.std.proofs.Common.{◌≡◌, ℕ, List, sym, ap, subst, inl, inr}
 use Rattle.std.specs.Prelude.{Option, Some, None, Result, Ok, Err}
-use Rattle.mdl_key.specs.declared.key_error.KeyError.{KeyError}
-use Rattle.mdl_key.specs.declared.key_error.KeyError.TheVariants.{OutOfMemory}
+use Rattle.mdl_key.specs.declared.key_error.Utf8NameError.{Utf8NameError}
+use Rattle.mdl_key.specs.declared.key_error.Utf8NameError.TheVariants.{OutOfMemory}
 use Rattle.mdl_key.specs.declared.namespace.Namespace.{Namespace}
 use Rattle.mdl_key.specs.declared.namespace.Namespace.TheVariants.{Global, Schema, Table, Commit, UserLevelLock}
 use Rattle.mdl_key.specs.Keys.{KeyName}
@@ -16,23 +16,23 @@ use Rattle.mdl_c_calls.specs.Names.{IsNameCode, MakesKey, NamedIn}
 use Rattle.mdl_c_calls.specs.Transactions.{Given, MakesWish}
 
 -- the error of a result, or another where there is none
-abbrev error_or : (T : Type 0) → KeyError → Result T KeyError → KeyError
+abbrev error_or : (T : Type 0) → Utf8NameError → Result T Utf8NameError → Utf8NameError
 error_or T other (Ok _) = other
 error_or T other (Err why) = why
 
-pub name-code : (T : Type 0) (are_text : Type 0) (fault : Option KeyError) (why : KeyError) → are_text → Refuses {T = T} fault OutOfMemory (Err why)
+pub name-code : (T : Type 0) (are_text : Type 0) (fault : Option Utf8NameError) (why : Utf8NameError) → are_text → Refuses {T = T} fault OutOfMemory (Err why)
     → IsNameCode are_text fault (name_code why)
 name-code T are_text None why text refused = inr (text, ap name_code refused)
 name-code T are_text (Some fault) why text refused = inr (text, ap name_code (ap (error_or T why) refused))
 
 -- ---- what is done with a key, or with the code of why there is none
 
-named-so : {are_text : Type 0} {fault : Option KeyError} {key name : KeyName} (Done : KeyName → Type 0) (Refused : ℕ → Type 0)
+named-so : {are_text : Type 0} {fault : Option Utf8NameError} {key name : KeyName} (Done : KeyName → Type 0) (Refused : ℕ → Type 0)
     → MakesKey are_text fault (key ≡ name) (λ _. ⊥) → Done key → MakesKey are_text fault (Done name) Refused
 named-so Done Refused (inl (text, none, is)) done = inl (text, none, subst Done is done)
 named-so Done Refused (inr (code, why, never)) done = absurd never
 
-unnamed-so : {are_text : Type 0} {fault : Option KeyError} {code : ℕ} (Done : Type 0) (Refused : ℕ → Type 0)
+unnamed-so : {are_text : Type 0} {fault : Option Utf8NameError} {code : ℕ} (Done : Type 0) (Refused : ℕ → Type 0)
     → MakesKey are_text fault ⊥ (λ wrong. code ≡ wrong) → Refused code → MakesKey are_text fault Done Refused
 unnamed-so Done Refused (inl (text, none, never)) refused = absurd never
 unnamed-so Done Refused (inr (wrong, why, is)) refused = inr (wrong, why, subst Refused is refused)

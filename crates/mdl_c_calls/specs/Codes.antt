@@ -3,8 +3,8 @@
 use Rattle.std.specs.Prelude.{ℕ, ◌==◌, false, Option, Some, None, if◌then◌else◌}
 use Rattle.mdl_key.specs.declared.mode.Mode.{Mode}
 use Rattle.mdl_key.specs.declared.mode.Mode.TheVariants.{IX, S, SH, SR, SW, SWLP, SU, SRO, SNW, SNRW, X}
-use Rattle.mdl_key.specs.declared.key_error.KeyError.{KeyError}
-use Rattle.mdl_key.specs.declared.key_error.KeyError.TheVariants as name
+use Rattle.mdl_key.specs.declared.key_error.Utf8NameError.{Utf8NameError}
+use Rattle.mdl_key.specs.declared.key_error.Utf8NameError.TheVariants as name
 use Rattle.mdl_calls.specs.declared.answers.Settled.{Settled}
 use Rattle.mdl_calls.specs.declared.answers.Settled.TheVariants as settled
 use Rattle.mdl_calls.specs.declared.answers.TimedOut.TheVariants as timeout
@@ -35,7 +35,7 @@ no_session = 18
 abbrev pub no_mode : ℕ
 no_mode = 21
 
--- a name has a byte that names can't have
+-- a name isn't UTF-8
 abbrev pub bad_byte : ℕ
 bad_byte = 24
 
@@ -81,10 +81,9 @@ new_code new.BadSessions = 20
 new_code new.OutOfMemory = no_memory
 
 -- the code of why a key can't be made
-abbrev pub name_code : KeyError → ℕ
+abbrev pub name_code : Utf8NameError → ℕ
 name_code name.EmptyName = 22
 name_code name.LongName = 23
-name_code (name.BadByte _) = bad_byte
 name_code name.OutOfMemory = no_memory
 
 -- the code of why the space refuses a call

@@ -30,8 +30,8 @@ refusal_rows =
     (20, codes "A manager has 1 to 1024 sessions.") ∷
     (21, codes "There is no mode of this number.") ∷
     (22, codes "The name is empty.") ∷
-    (23, codes "The name has more than 64 bytes.") ∷
-    (24, codes "The name has a byte that is none of a-z, 0-9 and _.") ∷
+    (23, codes "The name has more than 255 bytes.") ∷
+    (24, codes "The name isn't UTF-8.") ∷
     (25, codes "A context keeps the tickets of the session.") ∷
     (26, codes "The session has no context.") ∷
     (27, codes "The session holds a ticket, has a wait, or pins a place.") ∷

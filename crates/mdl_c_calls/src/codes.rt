@@ -8,7 +8,7 @@ ghost use Rattle.mdl_c_calls.specs.ContextCodes.{answered, served_code};
 
 use crate::context_codes::unserved_code;
 use crate::unserved::Unserved;
-use mdl_key::{KeyError, Mode};
+use mdl_key::{Mode, Utf8NameError};
 use mdl_space::{
     Attempt, Begun, Ended, NewError, Place, Poll, Search, Settled, SpaceError, TicketId, TimedOut,
     Upgrade,
@@ -83,14 +83,13 @@ pub fn new_code(why: NewError) -> u32
 }
 
 /// Returns the code that says why a key can't be made.
-pub fn name_code(why: KeyError) -> u32
+pub fn name_code(why: Utf8NameError) -> u32
     ensures { result ≡ name_code why }
 {
     match why {
-        KeyError::EmptyName => 22,
-        KeyError::LongName => 23,
-        KeyError::BadByte(_) => BAD_BYTE,
-        KeyError::OutOfMemory => NO_MEMORY,
+        Utf8NameError::EmptyName => 22,
+        Utf8NameError::LongName => 23,
+        Utf8NameError::OutOfMemory => NO_MEMORY,
     }
 }
 

@@ -1,7 +1,7 @@
 //! Keys made of names that C passes as bytes.
 ghost use Rattle.std.specs.Prelude.{◌≡◌, None, MatchResult};
 ghost use Rattle.std.specs.Str.{IsUtf8};
-ghost use Rattle.mdl_key.specs.Keys.{name_fault, schema_key, table_fault, table_key, user_lock_key};
+ghost use Rattle.mdl_key.specs.Keys.{schema_key, table_key, user_lock_key, utf8_name_fault, utf8_table_fault};
 ghost use Rattle.mdl_c_calls.specs.ContextCodes.{namespace_at};
 ghost use Rattle.mdl_c_calls.specs.Names.{IsNameCode, NamedIn};
 
@@ -14,8 +14,8 @@ use std::str;
 /// Returns the key of a table, or the code that says why it can't be made.
 pub fn table_of(alloc: Global, schema: &[u8], table: &[u8]) -> Result<Key, u32>
     ensures { MatchResult result
-        (λ key. (IsUtf8 schema.now × IsUtf8 table.now) × (table_fault schema.now table.now ≡ None) × (key ≡ table_key schema.now table.now))
-        (λ code. IsNameCode (IsUtf8 schema.now × IsUtf8 table.now) (table_fault schema.now table.now) code) }
+        (λ key. (IsUtf8 schema.now × IsUtf8 table.now) × (utf8_table_fault schema.now table.now ≡ None) × (key ≡ table_key schema.now table.now))
+        (λ code. IsNameCode (IsUtf8 schema.now × IsUtf8 table.now) (utf8_table_fault schema.now table.now) code) }
 {
     let Ok(schema) = str::from_utf8(schema) else {
         return Err(BAD_BYTE);
@@ -23,7 +23,7 @@ pub fn table_of(alloc: Global, schema: &[u8], table: &[u8]) -> Result<Key, u32>
     let Ok(table) = str::from_utf8(table) else {
         return Err(BAD_BYTE);
     };
-    match Key::table(alloc, schema, table) {
+    match Key::table_utf8(alloc, schema, table) {
         Ok(key) => Ok(key),
         Err(why) => Err(name_code(why)),
     }
@@ -32,13 +32,13 @@ pub fn table_of(alloc: Global, schema: &[u8], table: &[u8]) -> Result<Key, u32>
 /// Returns the key of a schema, or the code that says why it can't be made.
 pub fn schema_of(alloc: Global, schema: &[u8]) -> Result<Key, u32>
     ensures { MatchResult result
-        (λ key. IsUtf8 schema.now × (name_fault schema.now ≡ None) × (key ≡ schema_key schema.now))
-        (λ code. IsNameCode (IsUtf8 schema.now) (name_fault schema.now) code) }
+        (λ key. IsUtf8 schema.now × (utf8_name_fault schema.now ≡ None) × (key ≡ schema_key schema.now))
+        (λ code. IsNameCode (IsUtf8 schema.now) (utf8_name_fault schema.now) code) }
 {
     let Ok(schema) = str::from_utf8(schema) else {
         return Err(BAD_BYTE);
     };
-    match Key::schema(alloc, schema) {
+    match Key::schema_utf8(alloc, schema) {
         Ok(key) => Ok(key),
         Err(why) => Err(name_code(why)),
     }
@@ -47,13 +47,13 @@ pub fn schema_of(alloc: Global, schema: &[u8]) -> Result<Key, u32>
 /// Returns the key of a user-level lock, or the code that says why it can't be made.
 pub fn user_lock_of(alloc: Global, name: &[u8]) -> Result<Key, u32>
     ensures { MatchResult result
-        (λ key. IsUtf8 name.now × (name_fault name.now ≡ None) × (key ≡ user_lock_key name.now))
-        (λ code. IsNameCode (IsUtf8 name.now) (name_fault name.now) code) }
+        (λ key. IsUtf8 name.now × (utf8_name_fault name.now ≡ None) × (key ≡ user_lock_key name.now))
+        (λ code. IsNameCode (IsUtf8 name.now) (utf8_name_fault name.now) code) }
 {
     let Ok(name) = str::from_utf8(name) else {
         return Err(BAD_BYTE);
     };
-    match Key::user_lock(alloc, name) {
+    match Key::user_lock_utf8(alloc, name) {
         Ok(key) => Ok(key),
         Err(why) => Err(name_code(why)),
     }

@@ -2,3 +2,4 @@
 mod matrices;
 mod modes;
 pub(crate) mod names;
+mod utf8_names;

@@ -3,7 +3,7 @@ use crate::base::rows::none_is_wrong;
 use mdl_book::BookError;
 use mdl_calls::SpaceError;
 use mdl_defs::{CacheError, ChangeError, DefError};
-use mdl_key::KeyError;
+use mdl_key::{KeyError, Utf8NameError};
 use std::alloc::Global;
 use std::fmt::Display;
 
@@ -30,6 +30,12 @@ const KEYS: &[(KeyError, &str)] = &[
     (KeyError::LongName, "name of more than 64 bytes"),
     (KeyError::BadByte(3), "bad byte at 3 of a name"),
     (KeyError::OutOfMemory, "out of memory"),
+];
+
+const UTF8_NAMES: &[(Utf8NameError, &str)] = &[
+    (Utf8NameError::EmptyName, "empty name"),
+    (Utf8NameError::LongName, "name of more than 255 bytes"),
+    (Utf8NameError::OutOfMemory, "out of memory"),
 ];
 
 const DEFINITIONS: &[(DefError, &str)] = &[
@@ -104,6 +110,7 @@ const SPACES: &[(SpaceError, &str)] = &[
 #[test]
 fn tells_each_cause(rt: HostRuntime) {
     none_is_wrong(&rt, "keys", first_wrong(rt.alloc(), KEYS));
+    none_is_wrong(&rt, "names", first_wrong(rt.alloc(), UTF8_NAMES));
     none_is_wrong(&rt, "definitions", first_wrong(rt.alloc(), DEFINITIONS));
     none_is_wrong(&rt, "changes", first_wrong(rt.alloc(), CHANGES));
     none_is_wrong(&rt, "caches", first_wrong(rt.alloc(), CACHES));

@@ -36,8 +36,8 @@ fn has_names(key: &Key, (namespace, schema, table): Name) -> bool {
         && key.table_name() == table
 }
 
-// Whether a copy of a key has these names and this kind, and is printed as this text.
-fn is_copied_so(alloc: Global, key: &Key, name: Name, kind: Kind, text: &str) -> bool {
+/// Whether a copy of a key has these names and this kind, and is printed as this text.
+pub(crate) fn is_copied_so(alloc: Global, key: &Key, name: Name, kind: Kind, text: &str) -> bool {
     let Ok(copy) = key.clone() else {
         return false;
     };
