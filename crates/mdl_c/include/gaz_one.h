@@ -11,7 +11,7 @@
    GAZ_WAITING, call gaz_one_search, then wait for a condition variable until gaz_one_poll returns something else, and then call gaz_one_end. If the
    search returns GAZ_NO_MEMORY, a deadlock may be left: give the wait up by gaz_one_time_out. These calls may settle another session's wait:
    gaz_one_release, gaz_one_search, gaz_one_end, gaz_one_kill, gaz_one_time_out, gaz_one_downgrade and gaz_one_merge. After them wake the sessions that
-   gaz_one_settled lists. The table that threads share can't be called from C: its calls wait for latches, and no function that C calls may wait.
+   gaz_one_settled or gaz_one_woken lists. The table that threads share can't be called from C: its calls wait for latches, and no function that C calls may wait.
 
    The program keeps a session's tickets by their numbers, or a context keeps them, from gaz_one_context_begin until gaz_one_context_end: by their
    durations, as a server's transactions need. Then the session requests its locks by gaz_one_acquire and the other calls of contexts below, and those
@@ -209,6 +209,11 @@ uint32_t gaz_one_make_transactional(struct gaz_one_space *space, uint16_t who);
 /* The sessions whose waits are settled and not ended, in rising order: DONE. Call it after each call that may settle waits, and wake these
    sessions. Where no wait is settled it looks at no session. */
 uint32_t gaz_one_settled(struct gaz_one_space *space, uint16_t *sessions, size_t room, size_t *count);
+
+/* The same, but each wait is told once: DONE. `told` has an entry for each session, from session 1 on: the number of its wait that was told last. All are 0
+   when the space is opened, and only this call writes them. If there isn't room for all of the sessions, no entry is written: call it again with as much
+   room as the count says. */
+uint32_t gaz_one_woken(struct gaz_one_space *space, uint64_t *told, size_t entries, uint16_t *sessions, size_t room, size_t *count);
 
 /* The tickets that a session holds, in the order in which it got them: DONE. The call allocates memory, and frees it again. */
 uint32_t gaz_one_held(struct gaz_one_space *space, uint16_t who, struct gaz_ticket *tickets, size_t room, size_t *count);

@@ -72,7 +72,8 @@ impl ServedSpace {
         ensures noted { told.new ≡ noted self.old told.old }
         ensures unchanged { self.new ≡ self.old }
     {
-        for index in 0..self.session_count() {
+        let sessions = self.session_count();
+        for index in 0..sessions {
             if let Some(number) = self.settled_number(index + 1) {
                 note_at(told, index, number);
             }
