@@ -1,10 +1,10 @@
 //! What a manager shows of the locks. It changes nothing.
-ghost use Rattle.std.specs.Prelude.{◌≡◌, ◌≤◌, MatchOption, length, map, slice_get, slice_set};
-ghost use Rattle.std.specs.Option.{option_and_then, option_copied, option_map};
+ghost use Rattle.std.specs.Prelude.{◌≡◌, MatchOption, map, slice_get, slice_set};
+ghost use Rattle.std.specs.Option.{option_and_then, option_copied};
 ghost use Rattle.mdl_calls.specs.Words.{List_held, listed};
 ghost use Rattle.mdl_core.specs.Words.{SpeaksFor, seat_at};
 ghost use Rattle.mdl_core.specs.declared.pending.Pending.{Pending};
-ghost use Rattle.mdl_c_calls.specs.Listings.{IsListWritten, IsNoted, LockTold, duration_told, granted_row, has_settled_wait, how_settled, is_newly_settled, keyed_book, newly_settled, noted, room_written, settled_number, settled_sessions, told_number, waiting_at, waiting_row, waiting_status};
+ghost use Rattle.mdl_c_calls.specs.Listings.{IsListWritten, LockTold, duration_told, granted_row, has_settled_wait, how_settled, keyed_book, room_written, settled_sessions, waiting_at, waiting_row, waiting_status};
 ghost use Rattle.mdl_c_calls.specs.Managers.{IsOutside, JoinsFor, session_count_of};
 ghost use Rattle.mdl_space.specs.SettledWaits.{settled_waits};
 
@@ -35,86 +35,20 @@ impl ServedSpace {
         count
     }
 
-    /// Writes the sessions whose waits are newly settled, in rising order: as many as there is room for. Returns how many there are. If there is room for
-    /// all of them, the numbers of their waits are told then.
-    pub fn tell_woken(&mut self, told: &mut [u64], room: &mut [u16]) -> usize
-        ensures told { IsListWritten (newly_settled self.old told.old) room.old room.new result }
-        ensures noted { IsNoted self.old told.old told.new (length room.old) }
-        ensures unchanged { self.new ≡ self.old }
-    {
-        if self.settled_waits() == 0 {
-            return 0;
-        }
-        let count = self.write_woken(told, room);
-        if count <= room.len() {
-            self.note_settled(told);
-        }
-        count
-    }
-
-    fn write_woken(&mut self, told: &[u64], room: &mut [u16]) -> usize
-        ensures told { IsListWritten (newly_settled self.old told.now) room.old room.new result }
-        ensures unchanged { self.new ≡ self.old }
-    {
-        let sessions = self.session_count();
-        let mut count = 0;
-        for index in 0..sessions {
-            if self.is_newly_settled(index + 1, told) {
-                write_at(room, count, index + 1);
-                count += 1;
-            }
-        }
-        count
-    }
-
-    // Writes the number of each settled wait to the entry of its session, if there is one.
-    fn note_settled(&mut self, told: &mut [u64])
-        ensures noted { told.new ≡ noted self.old told.old }
-        ensures unchanged { self.new ≡ self.old }
-    {
-        let sessions = self.session_count();
-        for index in 0..sessions {
-            if let Some(number) = self.settled_number(index + 1) {
-                note_at(told, index, number);
-            }
-        }
-    }
-
-    fn is_newly_settled(&mut self, who: u16, told: &[u64]) -> bool
-        ensures told { result ≡ is_newly_settled self.old told.now who }
-        ensures unchanged { self.new ≡ self.old }
-    {
-        match self.settled_number(who) {
-            Some(number) => number != told_number(told, who),
-            None => false,
-        }
-    }
-
-    // The number of a session's settled wait, if it has one.
-    fn settled_number(&mut self, who: u16) -> Option<u64>
-        ensures told { result ≡ settled_number who self.old }
-        ensures unchanged { self.new ≡ self.old }
-    {
-        if !self.has_settled_wait(who) {
-            return None;
-        }
-        wait_number(&mut self.space, who)
-    }
-
     // How many waits are settled and not ended. It looks at no session.
-    fn settled_waits(&self) -> usize
+    pub(super) fn settled_waits(&self) -> usize
         ensures { result ≡ settled_waits self.now.space.seats }
     {
         self.space.settled_waits()
     }
 
-    fn session_count(&self) -> u16
+    pub(super) fn session_count(&self) -> u16
         ensures { result ≡ session_count_of self.now }
     {
         self.sessions
     }
 
-    fn has_settled_wait(&mut self, who: u16) -> bool
+    pub(super) fn has_settled_wait(&mut self, who: u16) -> bool
         ensures told { result ≡ has_settled_wait self.old who }
         ensures unchanged { self.new ≡ self.old }
     {
@@ -236,39 +170,12 @@ fn waiting_status(how: Option<Settled>) -> u8
 
 // Writes a session at an index of the room, if there is one.
 #[tactic(auto, using(crate::proofs::SettledLemmas::left_past))]
-fn write_at(room: &mut [u16], index: usize, who: u16)
+pub(super) fn write_at(room: &mut [u16], index: usize, who: u16)
     ensures { room.new ≡ slice_set room.old index who }
 {
     if index < room.len() {
         room[index] = who;
     }
-}
-
-// Writes a number at an index of those that are told, if there is such an index.
-#[tactic(auto, using(crate::proofs::SettledLemmas::left_past))]
-fn note_at(told: &mut [u64], index: u16, number: u64)
-    ensures { told.new ≡ slice_set told.old index number }
-{
-    if usize::from(index) < told.len() {
-        told[usize::from(index)] = number;
-    }
-}
-
-// The number that was told of a session last.
-fn told_number(told: &[u64], who: u16) -> u64
-    requires { 1 ≤ who }
-    ensures { result ≡ told_number who told.now }
-{
-    told.get(usize::from(who) - 1).copied().unwrap_or(0)
-}
-
-// The number of a session's wait, if it has one. It changes nothing: only the type of `wait_of` requires `&mut`.
-fn wait_number(space: &mut CoreSpace, who: u16) -> Option<u64>
-    requires { SpeaksFor space.old who }
-    ensures told { result ≡ option_map (λ (wait : Pending). wait.number) (seat_at who space.old).wait }
-    ensures unchanged { space.new ≡ space.old }
-{
-    space.wait_of(who)
 }
 
 // How a session's wait is settled, if it has one that is. It changes nothing: only the type of `poll_wait` requires `&mut`.
