@@ -1,6 +1,6 @@
 -- The sessions whose waits are settled, one after the other, and the room into which they are written.
 use Rattle.std.proofs.Common.{◌≡◌, ◌∙◌, ℕ, zero, suc, ◌+◌, ◌≤◌, Bool, true, false, not, ◌&&◌, ◌==◌, if◌then◌else◌, cond, List, [], ◌∷◌, ◌++◌, filter, length, set, Option, Some, None, option_map, refl, sym, ap, subst, arith}
-use Rattle.std.specs.Prelude.{slice_set}
+use Rattle.std.specs.Prelude.{nat_le, slice_set}
 use Rattle.std.specs.Option.{option_map_or}
 use Rattle.std.specs.List.{range_with_len}
 use Rattle.std.proofs.lemmas.List.{append-nil, length-append, set_past}
@@ -10,7 +10,7 @@ use Rattle.mdl_core.specs.CoreCalls.{has_settled}
 use Rattle.mdl_core.specs.Words.{seat_at}
 use Rattle.mdl_space.specs.SettledWaits.{settled_waits}
 use Rattle.mdl_space.proofs.SettledLemmas.{none-settled}
-use Rattle.mdl_c_calls.specs.Listings.{has_settled_wait, is_newly_settled, newly_settled, noted, noted_to, room_written, settled_number, settled_sessions, told_number}
+use Rattle.mdl_c_calls.specs.Listings.{IsNoted, has_settled_wait, is_newly_settled, newly_settled, noted, noted_to, room_written, settled_number, settled_sessions, told_number}
 use Rattle.mdl_c_calls.specs.Managers.{Managed, has_member, session_count_of}
 use Rattle.mdl_c_calls.proofs.WrittenLemmas.{written-none}
 
@@ -118,5 +118,11 @@ unnoted manager told zero none = refl
 unnoted manager told (suc n) none =
     ap (λ o. option_map_or (λ k. slice_set (noted_to manager told n) n k) o (noted_to manager told n)) (none (suc n)) ∙ unnoted manager told n none
 
-pub noted-none : (manager : Managed) (told : List ℕ) → settled_waits manager.space.seats ≡ 0 → noted manager told ≡ told
+noted-none : (manager : Managed) (told : List ℕ) → settled_waits manager.space.seats ≡ 0 → noted manager told ≡ told
 noted-none manager told none = unnoted manager told (session_count_of manager) (unnumbered manager none)
+
+pub noted-still : (manager : Managed) (told : List ℕ) (room : ℕ) → settled_waits manager.space.seats ≡ 0 → IsNoted manager told told room
+noted-still manager told room none = by (nat_le (length (newly_settled manager told)) room) where
+  by : (fits : Bool) → told ≡ (if fits then noted manager told else told)
+  by true = sym (noted-none manager told none)
+  by false = refl
