@@ -30,8 +30,8 @@ PAGES = dist/pages
 # This file exists once `make run` has printed answers.
 FIRST_RUN = crates/mdlsim/out/first_run
 
-.PHONY: help run try script test layout docs bench examples commands c fuzz pages growths race wrong build view install dist dist-check dist-libraries \
-    dist-libraries-check clean kit timers
+.PHONY: help run try script test layout docs bench examples commands c fuzz pages growths race wrong build view install archives dist dist-check \
+    dist-libraries dist-libraries-check clean kit timers
 
 help:
 	@echo 'All need the Rattle kit, except fuzz, pages, dist-check and clean.'
@@ -42,13 +42,14 @@ help:
 	@echo 'make build                 proves and builds mdlsim'
 	@echo 'make view                  proves and builds mdlview'
 	@echo 'make install [PREFIX=DIR]  builds the programs and the libraries for C, proved, and installs them, the programs with their commit'
+	@echo 'make archives [PREFIX=DIR] does the same with the libraries for C alone'
 	@echo
 	@echo 'make test                  the gate: proves everything from nothing, and runs all tests'
 	@echo 'make layout                reports files that the formatter would change, and mutants that fit no file'
 	@echo 'make docs                  reports what is stale in the pages'
 	@echo 'make examples              compares the answers to each example with those that lie beside it'
 	@echo 'make commands              checks what the proved programs do by their command lines'
-	@echo 'make c                     builds programs of C, Rust and Python over the libraries for C, proved, and compares what they print'
+	@echo 'make c                     builds programs of C, C++, Rust, Python and Go over the libraries for C, proved, and compares what they print'
 	@echo 'make fuzz [SECONDS=60]     gives random scripts, rows and noise to the programs that were built last, and checks each run'
 	@echo 'make pages [MDLVIEW=PATH]  prints the example scripts as pages for a browser, into dist/pages/'
 	@echo 'make growths               refuses each growth of some short lives in turn'
@@ -112,8 +113,8 @@ commands: build view
 	@python3 commands/check.py $(PROGRAM)
 	@python3 commands/check_view.py $(VIEW)
 
-# Checks that the programs of examples/c, examples/rust and examples/python give their answers, with the proved libraries for C. It says what it leaves
-# out, as all without gcc.
+# Checks that the programs of examples/c, examples/cpp, examples/rust, examples/python and examples/go give their answers, with the proved libraries for
+# C. It says what it leaves out, as all without gcc.
 c: kit
 	@sh make/c.sh
 
@@ -153,6 +154,11 @@ view: kit
 install: build view
 	@python3 make/archive.py
 	@sh make/lay_out.sh "$(PREFIX)" $(PROGRAMS)
+	@sh make/lay_out_c.sh "$(PREFIX)"
+
+# Builds the libraries for C, proved, and installs them.
+archives: kit
+	@python3 make/archive.py
 	@sh make/lay_out_c.sh "$(PREFIX)"
 
 # Packs what was built last, and builds only what is missing. After `make test` it packs the programs and the libraries that the gate proved. Packing twice

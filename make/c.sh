@@ -1,7 +1,7 @@
 #!/bin/sh
 # Builds and proves the libraries for C, lays them out as `make install` does, and builds and runs the programs that use them: those of examples/c,
-# examples/rust and examples/python. It compares what they print with the answers beside them. What it has to leave out, for want of a compiler, it
-# says as make/skipped.sh does.
+# examples/cpp, examples/rust, examples/python and examples/go. It compares what they print with the answers beside them. What it has to leave out, for
+# want of a compiler, it says as make/skipped.sh does.
 # Usage: sh make/c.sh
 cd "$(dirname "$0")/.." || exit 1
 if ! command -v gcc > /dev/null; then
@@ -68,7 +68,6 @@ read_headers() {
 }
 
 try_c() {
-    words=$(words_for_c) && read_headers || return 1
     for program in examples/c/*.c; do
         name=$(basename "$program" .c)
         gcc -std=c11 -D_POSIX_C_SOURCE=200809L -Wall -Wextra -Werror -O2 -pthread "$program" $words -o "$made/$name" \
@@ -76,19 +75,46 @@ try_c() {
     done
 }
 
-try_rust() {
-    if ! command -v cargo > /dev/null; then
-        sh make/skipped.sh 'the program of examples/rust' 'cargo is missing'
+try_cpp() {
+    if ! command -v g++ > /dev/null; then
+        sh make/skipped.sh 'the program of examples/cpp' 'g++ is missing'
         return
     fi
-    compare examples/rust/threads.answers env GAZ_LIB="$made/lib" CARGO_TARGET_DIR="$made/cargo" \
-        cargo run --offline --locked --quiet --release --manifest-path examples/rust/Cargo.toml --example threads
+    g++ -std=c++17 -Wall -Wextra -Wpedantic -Werror -O2 -pthread examples/cpp/transactions.cpp $words -o "$made/cpp" \
+        && compare examples/cpp/transactions.answers "$made/cpp"
+}
+
+try_rust() {
+    if ! command -v cargo > /dev/null; then
+        sh make/skipped.sh 'the programs of examples/rust' 'cargo is missing'
+        return
+    fi
+    for name in threads transactions; do
+        compare "examples/rust/$name.answers" env GAZ_LIB="$made/lib" CARGO_TARGET_DIR="$made/cargo" \
+            cargo run --offline --locked --quiet --release --manifest-path examples/rust/Cargo.toml --example "$name" || return 1
+    done
 }
 
 try_python() {
-    gcc -shared -o "$made/libgaz_one.so" -Wl,--whole-archive "$made/lib/libgaz_one.a" -Wl,--no-whole-archive "$made/lib/libgaz_malloc.a" \
-        && compare examples/python/waits.answers env PYTHONDONTWRITEBYTECODE=1 python3 examples/python/waits.py "$made/libgaz_one.so"
+    gcc -shared -o "$made/libgaz_one.so" -Wl,--whole-archive "$made/lib/libgaz_one.a" -Wl,--no-whole-archive "$made/lib/libgaz_malloc.a" || return 1
+    for name in waits transactions; do
+        compare "examples/python/$name.answers" env PYTHONDONTWRITEBYTECODE=1 python3 "examples/python/$name.py" "$made/libgaz_one.so" || return 1
+    done
 }
 
-python3 make/archive.py && sh make/lay_out_c.sh "$made" && try_c && try_rust && try_python || exit 1
+# Runs go in examples/go, with the libraries. It keeps nothing outside, and fetches nothing: WORD..
+run_go() {
+    (cd examples/go && env CGO_CFLAGS="-I$made/include" CGO_LDFLAGS="-L$made/lib" GOCACHE="$made/go" GOPATH="$made/gopath" GOPROXY=off GOTOOLCHAIN=local \
+        go "$@")
+}
+
+try_go() {
+    if ! command -v go > /dev/null; then
+        sh make/skipped.sh 'the program of examples/go' 'go is missing'
+        return
+    fi
+    run_go vet ./... && run_go build -o "$made/of_go" ./transactions && compare examples/go/transactions.answers "$made/of_go"
+}
+
+python3 make/archive.py && sh make/lay_out_c.sh "$made" && words=$(words_for_c) && read_headers && try_c && try_cpp && try_rust && try_python && try_go || exit 1
 echo 'each program that was tried over the libraries for C has its answers'

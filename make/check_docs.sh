@@ -108,6 +108,11 @@ stale_headers() {
     python3 make/docs/header.py
 }
 
+# docs/EMBEDDING.md says what to do about each code, and has the terms of all that is in the libraries for C.
+stale_hosts() {
+    python3 make/docs/hosts.py
+}
+
 # The parts of pages that are made from the tree.
 stale_parts() {
     python3 make/docs/made.py check
@@ -160,6 +165,7 @@ stale() {
     stale_names
     stale_memory
     stale_headers
+    stale_hosts
     stale_parts
     stale_words
     stale_charts

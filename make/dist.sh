@@ -69,23 +69,30 @@ needs_of() {
     fi
 }
 
-# The libraries of the kit that the crates depend on, and those that these libraries depend on.
+# The libraries of the kit that the crates depend on, directly or not.
 kit_libraries() {
-    awk -v CRATES="$*" -v KIT=1 -f make/crates_below.awk crates.txt > "$made/libraries"
-    while read -r library; do
-        echo "$library"
-        grep -a '^dep ' "$kit/rlibs/$library.rlib/format" | sed 's/^dep //'
-    done < "$made/libraries" | sort -u
+    awk -v CRATES="$*" -v KIT=1 -f make/crates_below.awk crates.txt | sort -u > "$made/found"
+    : > "$made/libraries"
+    while ! cmp -s "$made/found" "$made/libraries"; do
+        mv "$made/found" "$made/libraries"
+        while read -r library; do
+            echo "$library"
+            grep -a '^dep ' "$kit/rlibs/$library.rlib/format" | sed 's/^dep //'
+        done < "$made/libraries" | sort -u > "$made/found"
+    done
+    cat "$made/libraries"
 }
 
+# Copies the licences, and lists the libraries that have none beside them.
 put_licences() {
-    cp LICENSE-MIT LICENSE-APACHE "$top" || return 1
+    cp LICENSE-MIT LICENSE-APACHE "$top" && mkdir -p "$top/licences" || return 1
     for library in $(kit_libraries "$@"); do
         for file in "$kit/rattle/$library"/LICENSE*; do
             if [ -e "$file" ]; then
                 mkdir -p "$top/licences/$library" && cp "$file" "$top/licences/$library" || return 1
             fi
         done
+        [ -e "$top/licences/$library" ] || echo "$library" >> "$top/licences/NONE"
     done
     if [ -d "$top/relink" ] && [ -e /usr/share/common-licenses/LGPL-2.1 ]; then
         mkdir -p "$top/licences/glibc" && cp /usr/share/common-licenses/LGPL-2.1 "$top/licences/glibc" || return 1
@@ -114,7 +121,8 @@ put_pages() {
     mkdir -p "$top/examples" "$top/docs" && cp docs/LANGUAGE.md docs/MYSQL.md docs/EMBEDDING.md "$top/docs" \
         && cp make/dist/check.sh CHANGELOG.md "$top" \
         && cp examples/*.lock examples/*.replay examples/*.run examples/*.answers examples/*.svg examples/README.md "$top/examples" \
-        && cp -r examples/c examples/rust examples/python "$top/examples" && cp -r tools/server_locks/answers "$top/examples/rows" && cp -r editors "$top" \
+        && cp -r examples/c examples/cpp examples/go examples/rust examples/python "$top/examples" \
+        && cp -r tools/server_locks/answers "$top/examples/rows" && cp -r editors "$top" \
         && rm -rf "$top/examples/python/__pycache__" "$top/examples/rust/target"
 }
 

@@ -1,6 +1,6 @@
 #!/bin/sh
 # Unpacks what `make dist` packed into an empty folder, and tries it there without the kit: its checksums, the files that it ought to have, the versions, the
-# examples, a script that is refused, the manual pages, the completions of bash if bash is there, and two programs of C if gcc and pkg-config are there.
+# examples, a script that is refused, the manual pages, the completions of bash if bash is there, and three programs of C if gcc and pkg-config are there.
 # Before that, if the kit is there, it packs once more, as another user might, and compares: the bytes have to be the same.
 # Usage: sh make/dist_check.sh PROGRAM..
 cd "$(dirname "$0")/.." || exit 1
@@ -90,6 +90,7 @@ for program in "$@"; do
 done
 refuses_a_script || fail 'a script with a session 0 is not refused as it ought to be'
 completes || fail "bash doesn't complete mdlsim run --p"
+builds first gaz_one || fail 'examples/c/first.c has other answers'
 builds one_thread gaz_one || fail 'examples/c/one_thread.c has other answers'
 builds text gaz_text || fail 'examples/c/text.c has other answers'
 echo "$name: it works where it is unpacked"

@@ -1,5 +1,5 @@
-/* The locks of four threads, a session each, behind one mutex of the program's own. Each session waits for a condition variable of its own, and for
-   so long as it has patience. */
+/* The same as waiting.c without contexts: the locks of four threads, a session each, behind one mutex of the program's own. Each session waits for a
+   condition variable of its own, and for so long as it has patience. */
 #include "gaz_one.h"
 
 #include <errno.h>
@@ -33,7 +33,7 @@ static struct timespec in(long milliseconds)
     return at;
 }
 
-/* Wakes the sessions whose waits are settled. */
+/* Wakes the sessions whose waits are settled. The mutex is held. */
 static void wake(void)
 {
     uint16_t sessions[THREADS] = {0};
@@ -43,7 +43,8 @@ static void wake(void)
         pthread_cond_signal(&turns[sessions[at] - 1]);
 }
 
-/* Waits until the session's wait is settled, and ends it. Whoever begins to wait looks for the deadlocks that this makes. */
+/* Waits until the session's wait is settled, and ends it. Whoever begins to wait looks for the deadlocks that this makes. The mutex is held, but not
+   while the thread sleeps. */
 static uint32_t finish(uint16_t who, long patience, uint64_t *ticket)
 {
     struct timespec until = in(patience);

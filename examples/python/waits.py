@@ -70,9 +70,9 @@ def main():
         except Refused as refused:
             print(f"a place that isn't pinned any more: {refused}")
         try:
-            manager.table(1, "shop", "or ders")
+            manager.table(1, "shop", "")
         except Refused as refused:
-            print(f"a name with a space: {refused}")
+            print(f"a table without a name: {refused}")
 
 
 if __name__ == "__main__":

@@ -1,5 +1,5 @@
 -- Two texts are equal if and only if both parts of them are, cut at one place.
-use Rattle.std.proofs.Common.{◌≡◌, ℕ, zero, suc, true, ◌&&◌, ◌==◌, List, [], ◌∷◌, refl, arith}
+use Rattle.std.proofs.Common.{◌≡◌, ℕ, zero, suc, Bool, true, false, ◌&&◌, ◌==◌, List, [], ◌∷◌, refl, arith}
 use Rattle.std.specs.Prelude.{drop, take}
 use Rattle.std.specs.Cmp.Lexicographic.{pointwise}
 use Rattle.std.proofs.lemmas.Bool.Decides.{nat_tests}
@@ -10,8 +10,3 @@ cut-equal (suc cut) [] [] = refl
 cut-equal (suc cut) [] (y ∷ ys) = refl
 cut-equal (suc cut) (x ∷ xs) [] = refl
 cut-equal (suc cut) (x ∷ xs) (y ∷ ys) = grind (arith, nat_tests, cut-equal cut xs ys)
-
--- a text is the same as itself
-pub same-itself : (a : List ℕ) → pointwise ◌==◌ a a ≡ true
-same-itself [] = refl
-same-itself (x ∷ xs) = grind (arith, nat_tests, same-itself xs)

@@ -1,10 +1,9 @@
 //! Keys: the names of locks.
-ghost use Rattle.std.specs.Prelude.{◌≡◌, ◌≤◌, ◌==◌, ℕ, Some, [], ◌∷◌, ◌++◌, IfOk, IsOkUnless, length, not, position};
+ghost use Rattle.std.specs.Prelude.{◌≡◌, ◌≤◌, ℕ, Some, [], ◌∷◌, ◌++◌, IfOk, IsOkUnless, length, not, position};
 ghost use Rattle.std.specs.String.{string_bytes};
 ghost use Rattle.std.proofs.Common.{rules};
 ghost use Rattle.std.specs.Ordering.{as_partial_cmp};
 ghost use Rattle.std.specs.Cmp.{partial_order_from_own_ties};
-ghost use Rattle.std.specs.Cmp.Lexicographic.{pointwise};
 ghost use Rattle.std.specs.Cmp.Rules.{comparing, hashing};
 ghost use Rattle.std.specs.Hash as fed;
 ghost use Rattle.mdl_key.specs.Modes.{kind_of};
@@ -216,10 +215,7 @@ impl PartialEq for Key {
     fn eq(&self, other: &Key) -> bool {
         self.namespace == other.namespace
             && self.cut == other.cut
-            && is_same_text(
-                self.names.as_str().as_bytes(),
-                other.names.as_str().as_bytes(),
-            )
+            && self.names.as_str() == other.names.as_str()
     }
 }
 
@@ -336,19 +332,4 @@ fn joined(alloc: Global, schema: &str, table: &str) -> Result<String, KeyError>
         return Err(KeyError::OutOfMemory);
     }
     Ok(names)
-}
-
-// Whether two texts are the same. Most names differ in their last byte, so the last bytes are compared first.
-fn is_same_text(text: &[u8], other: &[u8]) -> bool
-    ensures { result ≡ pointwise ◌==◌ text.now other.now }
-{
-    if text.len() != other.len() {
-        return false;
-    }
-    for at in (0..text.len()).rev() {
-        if text[at] != other[at] {
-            return false;
-        }
-    }
-    true
 }

@@ -91,8 +91,8 @@ fn run() -> Result<(), Error> {
         println!("without its place: {error}");
     }
     println!(
-        "a name with a space: {}",
-        reader.table("shop", "or ders").unwrap_err()
+        "a table without a name: {}",
+        reader.table("shop", "").unwrap_err()
     );
     Ok(())
 }

@@ -11,7 +11,7 @@ pub enum Error {
     Timeout,
     /// Another session has ended the wait.
     Killed,
-    /// A name has 1 to 64 bytes of `a-z`, `0-9` and `_`.
+    /// A name has 1 to 255 bytes.
     BadName,
     /// The session doesn't pin the place. Or all places are in use, and there is none for one more key.
     NoPlace,
@@ -19,6 +19,12 @@ pub enum Error {
     InUse,
     /// The key doesn't take the mode.
     BadMode,
+    /// The ticket's mode can't become the other.
+    NotUpgradable,
+    /// The context keeps no such ticket.
+    NotKept,
+    /// The context keeps fewer tickets than the mark counted.
+    StaleSavepoint,
     /// Memory ran out. The call may be made again.
     OutOfMemory,
     /// Any other code of `gaz_one.h`.
@@ -34,9 +40,12 @@ impl Error {
             5 => Error::Killed,
             22..=24 => Error::BadName,
             32 => Error::NoPlace,
+            34 => Error::NotUpgradable,
             37 => Error::BadMode,
             45 => Error::OutOfMemory,
             46 => Error::InUse,
+            48 => Error::StaleSavepoint,
+            49 => Error::NotKept,
             other => Error::Refused(other),
         }
     }
@@ -48,10 +57,13 @@ impl fmt::Display for Error {
             Error::Deadlock => f.write_str("chosen to end a deadlock"),
             Error::Timeout => f.write_str("waited for too long"),
             Error::Killed => f.write_str("the wait was killed"),
-            Error::BadName => f.write_str("a name has 1 to 64 bytes of a-z, 0-9 and _"),
+            Error::BadName => f.write_str("a name has 1 to 255 bytes"),
             Error::NoPlace => f.write_str("the place isn't pinned, or all places are in use"),
             Error::InUse => f.write_str("the session has a lock at the place"),
             Error::BadMode => f.write_str("the key doesn't take the mode"),
+            Error::NotUpgradable => f.write_str("the ticket's mode can't become the other"),
+            Error::NotKept => f.write_str("the context keeps no such ticket"),
+            Error::StaleSavepoint => f.write_str("the savepoint's tickets are gone"),
             Error::OutOfMemory => f.write_str("out of memory"),
             Error::Refused(code) => write!(f, "refused by code {code}"),
         }

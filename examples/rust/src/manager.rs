@@ -60,26 +60,35 @@ impl Manager {
 
     // Wakes the sessions whose waits are settled.
     pub(crate) fn wake(&self, inside: &mut Inside) {
-        let Inside { space, settled, .. } = inside;
-        let mut count = 0;
-        // SAFETY: the pointer and the length are those of the room, and the mutex is held, by whoever has what is inside.
-        unsafe { raw::gaz_one_settled(space, settled.as_mut_ptr(), settled.len(), &mut count) };
-        for who in &settled[..count] {
+        for who in inside.settled() {
             self.turn_of(*who).notify_one();
         }
     }
 
-    // A session goes back to those that nobody has. It pins nothing then, except where a guard was forgotten.
+    // A session goes back to those that nobody has. Its context ends, if it has one. It pins nothing then, except where a guard was forgotten.
     pub(crate) fn give_back(&self, who: u16) {
         let mut inside = self.inside();
         let mut places = 0;
         // SAFETY: the mutex is held, here and below.
+        unsafe { raw::gaz_one_context_end(&mut inside.space, who) };
+        self.wake(&mut inside);
         unsafe { raw::gaz_one_places(&mut inside.space, &mut places) };
         for place in 1..=places as u16 {
             // A place that the session doesn't pin is refused, and nothing changes.
             unsafe { raw::gaz_one_unpin(&mut inside.space, who, place) };
         }
         inside.taken[usize::from(who) - 1] = false;
+    }
+}
+
+impl Inside {
+    // The sessions whose waits are settled and not ended.
+    pub(crate) fn settled(&mut self) -> &[u16] {
+        let mut count = 0;
+        let (room, length) = (self.settled.as_mut_ptr(), self.settled.len());
+        // SAFETY: the pointer and the length are those of the room, and the mutex is held, by whoever has what is inside.
+        unsafe { raw::gaz_one_settled(&mut self.space, room, length, &mut count) };
+        &self.settled[..count]
     }
 }
 

@@ -12,8 +12,8 @@ use std::time::{Duration, Instant};
 ///
 /// A guard that is forgotten (`std::mem::forget`) leaves its lock with the session, whoever takes that next.
 pub struct Session<'m> {
-    manager: &'m Manager,
-    who: u16,
+    pub(crate) manager: &'m Manager,
+    pub(crate) who: u16,
     not_shared: PhantomData<Cell<()>>, // `Send`, but not `Sync`
 }
 
@@ -59,6 +59,22 @@ impl<'m> Session<'m> {
                 self.who,
                 schema.as_ptr(),
                 schema.len(),
+                &mut place,
+            )
+        })?;
+        Ok(Place(place))
+    }
+
+    /// The place of a user-level lock's key, which the session then pins.
+    pub fn user_lock(&self, name: &str) -> Result<Place, Error> {
+        let mut place = 0;
+        // SAFETY: the pointer and the length are those of a `&str`, and the mutex is held.
+        done(unsafe {
+            raw::gaz_one_user_lock(
+                &mut self.manager.inside().space,
+                self.who,
+                name.as_ptr(),
+                name.len(),
                 &mut place,
             )
         })?;
@@ -134,8 +150,25 @@ impl<'m> Session<'m> {
         mut inside: MutexGuard<'_, Inside>,
         patience: Duration,
     ) -> Result<Guard<'s>, Error> {
-        let begun = Instant::now();
         let searched = self.end_deadlocks(&mut inside);
+        inside = self.sleep(inside, patience);
+        let mut ticket = 0;
+        // SAFETY: the mutex is held.
+        let code = unsafe { raw::gaz_one_end(&mut inside.space, self.who, &mut ticket) };
+        self.manager.wake(&mut inside); // the end of a lost wait makes way
+        match (searched, code) {
+            (Err(error), raw::TIMEOUT) => Err(error),
+            _ => done(code).map(|()| self.guard(ticket)),
+        }
+    }
+
+    // Sleeps until the wait is settled, by a timeout if it lasts for so long.
+    pub(crate) fn sleep<'g>(
+        &self,
+        mut inside: MutexGuard<'g, Inside>,
+        patience: Duration,
+    ) -> MutexGuard<'g, Inside> {
+        let begun = Instant::now();
         // SAFETY: the mutex is held, here and below.
         while unsafe { raw::gaz_one_poll(&mut inside.space, self.who) } == raw::WAITING {
             let left = patience.saturating_sub(begun.elapsed());
@@ -149,13 +182,7 @@ impl<'m> Session<'m> {
                     .0;
             }
         }
-        let mut ticket = 0;
-        let code = unsafe { raw::gaz_one_end(&mut inside.space, self.who, &mut ticket) };
-        self.manager.wake(&mut inside); // the end of a lost wait makes way
-        match (searched, code) {
-            (Err(error), raw::TIMEOUT) => Err(error),
-            _ => done(code).map(|()| self.guard(ticket)),
-        }
+        inside
     }
 
     // Searches until there is no deadlock, or the session itself is a victim. The victims have to learn of it. If memory runs out, a deadlock may be

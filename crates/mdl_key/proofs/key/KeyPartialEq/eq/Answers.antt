@@ -1,5 +1,5 @@
 -- Two keys of one namespace, with names that are cut at one place, are equal if and only if the names are.
-use Rattle.std.proofs.Common.{arith, rules}
+use Rattle.std.proofs.Common.{arith, rules, ap, sym, ◌∙◌}
 use Rattle.std.specs.String.{string_bytes}
 use Rattle.std.proofs.lemmas.Bool.Decides.{nat_tests}
 use Rattle.mdl_key.proofs.NameLemmas.{cut-equal}

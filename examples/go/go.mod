@@ -1,0 +1,3 @@
+module gaz
+
+go 1.19
