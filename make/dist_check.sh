@@ -17,9 +17,9 @@ fail() {
 }
 
 # What the tarball has, whatever the programs are.
-files='README.md CHANGELOG.md LICENSE-MIT LICENSE-APACHE SHA256SUMS check.sh include/gaz_codes.h include/gaz_one.h include/gaz_text.h lib/libgaz_malloc.a
-    lib/libgaz_one.a lib/libgaz_text.a lib/pkgconfig/gaz_one.pc lib/pkgconfig/gaz_text.pc docs/EMBEDDING.md docs/LANGUAGE.md docs/MYSQL.md examples/README.md
-    examples/rows/dump.rows editors/vim/syntax/mdlsim.vim editors/vscode/package.json'
+files='README.md CHANGELOG.md LICENSE-MIT LICENSE-APACHE SHA256SUMS check.sh include/gaz_codes.h include/gaz_one.h include/gaz_one_all.h include/gaz_text.h
+    lib/libgaz_malloc.a lib/libgaz_one.a lib/libgaz_text.a lib/pkgconfig/gaz_one.pc lib/pkgconfig/gaz_text.pc docs/EMBEDDING.md docs/LANGUAGE.md docs/MYSQL.md
+    examples/README.md examples/rows/dump.rows editors/vim/syntax/mdlsim.vim editors/vscode/package.json'
 
 # What it has of a program.
 files_of() {
