@@ -443,7 +443,33 @@ static void wait_in_a_ring(void)
     EXPECT(GAZ_DONE, gaz_one_close(&space));
 }
 
-/* All sessions but the first wait for it, and are granted together. */
+/* The waits of all sessions but the first are settled. They are told once, if there is room for all, and again only those that come later. */
+static void tell_once(uint16_t place)
+{
+    uint64_t told[SESSIONS] = {0}, number = 0;
+    uint16_t woken[SESSIONS] = {0};
+    size_t count = 0;
+    EXPECT(GAZ_DONE, gaz_one_woken(&space, told, SESSIONS, woken, SESSIONS - 2, &count));
+    CHECK(count == SESSIONS - 1 && woken[0] == 2 && woken[SESSIONS - 2] == 0 && told[1] == 0);
+    EXPECT(GAZ_DONE, gaz_one_woken(&space, told, SESSIONS, woken, SESSIONS - 1, &count));
+    CHECK(count == SESSIONS - 1 && woken[SESSIONS - 2] == SESSIONS && told[0] == 0);
+    for (uint16_t who = 2; who <= SESSIONS; who += 1)
+        CHECK(told[who - 1] == 1);
+    EXPECT(GAZ_DONE, gaz_one_woken(&space, told, SESSIONS, woken, SESSIONS, &count));
+    CHECK(count == 0);
+    EXPECT(GAZ_DONE, gaz_one_end(&space, 2, &number));
+    EXPECT(GAZ_DONE, gaz_one_release(&space, 2, number));
+    EXPECT(GAZ_WAITING, gaz_one_begin(&space, 2, place, GAZ_X, &number));
+    EXPECT(GAZ_DONE, gaz_one_woken(&space, told, SESSIONS, woken, SESSIONS, &count));
+    CHECK(count == 0);
+    EXPECT(GAZ_TIMEOUT, gaz_one_time_out(&space, 2));
+    EXPECT(GAZ_DONE, gaz_one_woken(&space, told, SESSIONS, woken, SESSIONS, &count));
+    CHECK(count == 1 && woken[0] == 2 && told[1] == number);
+    EXPECT(GAZ_DONE, gaz_one_woken(&space, told, 1, woken, SESSIONS, &count)); /* a session without an entry is told each time */
+    CHECK(count == SESSIONS - 1 && told[0] == 0);
+}
+
+/* All sessions but the first wait for it, and are granted together. Each is told once that its wait is settled, if there is room for all. */
 static void wait_for_one(void)
 {
     struct gaz_lock locks[SESSIONS];
@@ -470,9 +496,10 @@ static void wait_for_one(void)
     CHECK(count == SESSIONS - 1 && settled[0] == 2 && settled[1] == 3 && settled[2] == 0);
     EXPECT(GAZ_DONE, gaz_one_settled(&space, settled, SESSIONS, &count));
     CHECK(count == SESSIONS - 1 && settled[SESSIONS - 1] == 0);
+    tell_once(place);
     for (uint16_t who = 2; who <= SESSIONS; who += 1) {
         CHECK(settled[who - 2] == who);
-        EXPECT(GAZ_DONE, gaz_one_end(&space, who, &number));
+        EXPECT(who == 2 ? GAZ_TIMEOUT : GAZ_DONE, gaz_one_end(&space, who, &number));
     }
     EXPECT(GAZ_DONE, gaz_one_close(&space));
 }

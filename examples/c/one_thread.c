@@ -85,7 +85,7 @@ static void be_refused(uint16_t orders)
     tell("a table's key doesn't take IX", gaz_one_try(&space, 1, orders, GAZ_IX, &ticket));
     tell("nothing has place 9", gaz_one_try(&space, 1, 9, GAZ_SR, &ticket));
     tell("a name of no bytes", gaz_one_schema(&space, 1, NAME(""), &place));
-    tell("a name with a space", gaz_one_table(&space, 1, NAME("shop"), NAME("or ders"), &place));
+    tell("a name that isn't UTF-8", gaz_one_table(&space, 1, NAME("shop"), NAME("\xff"), &place));
     tell("no such ticket is held", gaz_one_release(&space, 1, 99));
     tell("a manager is there already", gaz_one_open(&space, 1, 1));
 }

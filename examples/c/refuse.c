@@ -138,8 +138,7 @@ static void come_and_go(struct gaz_one_space *space, uint16_t who)
 static void call_in_contexts(void)
 {
     struct gaz_one_space space = GAZ_ONE_SPACE_INIT;
-    struct gaz_request wanted[] = {{NAME("shop"), NAME("prices"), 0, GAZ_TABLE, GAZ_SW, GAZ_TRANSACTION},
-                                   {NAME("shop"), NAME("items"), 0, GAZ_TABLE, GAZ_SW, GAZ_TRANSACTION}};
+    struct gaz_request wanted[] = {{TABLE("prices"), GAZ_SW, GAZ_TRANSACTION, 0}, {TABLE("items"), GAZ_SW, GAZ_TRANSACTION, 0}};
     struct gaz_requests all = GAZ_REQUESTS_INIT(wanted, 2);
     struct gaz_mark mark = {0, 0};
     uint64_t writer = 0, ticket = 0, number = 0;

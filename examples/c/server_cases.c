@@ -592,24 +592,18 @@ static void truncate_too_long_name(void)
     EXPECT(GAZ_DONE, acquire(1, name + 1, GAZ_S, &ticket));
 }
 
-/* A request of a lock, and one of a table's until the transaction ends. */
-static struct gaz_request request_of(uint8_t namespace, const char *schema, const char *table, uint8_t mode, uint8_t duration)
-{
-    return (struct gaz_request){.schema = (const uint8_t *)schema, .schema_length = strlen(schema), .table = (const uint8_t *)table,
-                                .table_length = strlen(table), .namespace_ = namespace, .mode = mode, .duration = duration};
-}
-
+/* A request of a table's lock until the transaction ends. */
 static struct gaz_request table_request(const char *table, uint8_t mode)
 {
-    return request_of(GAZ_TABLE, "db", table, mode, GAZ_TRANSACTION);
+    return (struct gaz_request){TABLE(table), mode, GAZ_TRANSACTION, 0};
 }
 
 /* Several locks are acquired in the order of their keys: by namespace, and by names, of which one goes before those that it begins. */
 static void acquire_all_in_order(void)
 {
-    struct gaz_request wanted[] = {request_of(GAZ_USER_LEVEL_LOCK, "a", "", GAZ_X, GAZ_EXPLICIT), table_request("t2", GAZ_SR), table_request("t10", GAZ_SW),
-                                   {.namespace_ = GAZ_COMMIT, .mode = GAZ_IX, .duration = GAZ_TRANSACTION}, table_request("t1", GAZ_X),
-                                   request_of(GAZ_TABLE, "da", "t9", GAZ_SH, GAZ_STATEMENT), {.namespace_ = GAZ_GLOBAL, .mode = GAZ_IX}};
+    struct gaz_request wanted[] = {{USER("a"), GAZ_X, GAZ_EXPLICIT, 0}, {TABLE("t2"), GAZ_SR, GAZ_TRANSACTION, 0}, {TABLE("t10"), GAZ_SW, GAZ_TRANSACTION, 0},
+                                   {GAZ_COMMIT, NULL, 0, NULL, 0, GAZ_IX, GAZ_TRANSACTION, 0}, {TABLE("t1"), GAZ_X, GAZ_TRANSACTION, 0},
+                                   {GAZ_TABLE, NAME("da"), NAME("t9"), GAZ_SH, GAZ_STATEMENT, 0}, {GAZ_GLOBAL, NULL, 0, NULL, 0, GAZ_IX, GAZ_STATEMENT, 0}};
     struct gaz_requests all = GAZ_REQUESTS_INIT(wanted, sizeof wanted / sizeof *wanted);
     struct gaz_ticket tickets[ROOM];
     size_t count = 0;
@@ -629,8 +623,8 @@ static void acquire_all_in_order(void)
 static void try_all_or_none(void)
 {
     struct gaz_request wanted[] = {table_request("t3", GAZ_SR), table_request("t1", GAZ_SW), table_request("t2", GAZ_SR),
-                                   request_of(GAZ_TABLE, "db", "t1", GAZ_SR, GAZ_EXPLICIT), request_of(GAZ_TABLE, "db", "t1", GAZ_SH, GAZ_EXPLICIT)};
-    struct gaz_requests all = GAZ_REQUESTS_INIT(wanted, 5);
+                                   {TABLE("t1"), GAZ_SR, GAZ_EXPLICIT, 0}, {TABLE("t1"), GAZ_SH, GAZ_EXPLICIT, 0}, {TABLE("t2"), GAZ_SH, GAZ_STATEMENT, 0}};
+    struct gaz_requests all = GAZ_REQUESTS_INIT(wanted, 6);
     uint64_t first = 0, ticket = 0;
     EXPECT(GAZ_DONE, acquire(1, "t2", GAZ_SW, &first));
     EXPECT(GAZ_DONE, acquire(2, "t3", GAZ_X, &ticket));
@@ -640,7 +634,7 @@ static void try_all_or_none(void)
         CHECK(wanted[at].ticket == 0);
     EXPECT(GAZ_DONE, gaz_one_end_transaction(&space, 2));
     EXPECT(GAZ_DONE, gaz_one_try_all(&space, 1, &all));
-    CHECK(tickets_of(1) == 5 && is_owner(1, "t1", GAZ_SW) && is_owner(1, "t3", GAZ_SR) && wanted[3].ticket == first);
+    CHECK(tickets_of(1) == 6 && is_owner(1, "t1", GAZ_SW) && is_owner(1, "t3", GAZ_SR) && wanted[3].ticket == first);
 }
 
 /* All locks are waited for, one after the other, each of the session's waits until it is granted. */
@@ -657,7 +651,7 @@ static void acquire_all_goes_on(void)
     EXPECT(GAZ_DONE, gaz_one_context_release(&space, 2, first));
     CHECK(is_woken(1));
     EXPECT(GAZ_WAITING, gaz_one_acquire_all(&space, 1, &all));
-    CHECK(is_owner(1, "t1", GAZ_SR) && is_owner(1, "t2", GAZ_SR) && !is_owner(1, "t3", GAZ_SR));
+    CHECK(is_owner(1, "t1", GAZ_SR) && is_owner(1, "t2", GAZ_SR) && !is_owner(1, "t3", GAZ_SR) && wanted[1].ticket != 0 && wanted[2].ticket == 0);
     EXPECT(GAZ_DONE, gaz_one_end_transaction(&space, 2));
     EXPECT(GAZ_DONE, gaz_one_acquire_all(&space, 1, &all));
     CHECK(tickets_of(1) == 3 && is_owner(1, "t3", GAZ_SR));
@@ -668,7 +662,7 @@ static void acquire_all_goes_on(void)
 /* If a wait for one of them is lost, all go, and may be requested again. */
 static void acquire_all_lost(void)
 {
-    struct gaz_request wanted[] = {table_request("t2", GAZ_SW), table_request("t1", GAZ_SW), request_of(GAZ_TABLE, "db", "t1", GAZ_SR, GAZ_EXPLICIT)};
+    struct gaz_request wanted[] = {table_request("t2", GAZ_SW), table_request("t1", GAZ_SW), {TABLE("t1"), GAZ_SR, GAZ_EXPLICIT, 0}};
     struct gaz_requests all = GAZ_REQUESTS_INIT(wanted, 3);
     uint64_t ticket = 0, number = 0;
     EXPECT(GAZ_DONE, acquire(1, "t1", GAZ_SR, &ticket));
@@ -688,6 +682,28 @@ static void acquire_all_lost(void)
     EXPECT(GAZ_DONE, gaz_one_end_transaction(&space, 2));
     EXPECT(GAZ_DONE, gaz_one_acquire_all(&space, 1, &all));
     CHECK(tickets_of(1) == 4);
+}
+
+/* All are given up, also if the wait for one of them is granted meanwhile: the session has none, and waits for none. */
+static void acquire_all_given_up(void)
+{
+    struct gaz_request wanted[] = {table_request("t1", GAZ_SW), {TABLE("t2"), GAZ_SR, GAZ_EXPLICIT, 0}, table_request("t3", GAZ_SW)};
+    struct gaz_requests all = GAZ_REQUESTS_INIT(wanted, 3);
+    uint64_t ticket = 0;
+    EXPECT(GAZ_NO_WAIT, gaz_one_give_up_all(&space, 1, &all));
+    EXPECT(GAZ_DONE, acquire(2, "t2", GAZ_X, &ticket));
+    EXPECT(GAZ_DONE, acquire(3, "t3", GAZ_X, &ticket));
+    EXPECT(GAZ_WAITING, gaz_one_acquire_all(&space, 1, &all));
+    EXPECT(GAZ_TIMEOUT, gaz_one_give_up_all(&space, 1, &all));
+    CHECK(tickets_of(1) == 0);
+    EXPECT(GAZ_NO_WAIT, gaz_one_poll(&space, 1));
+    EXPECT(GAZ_WAITING, gaz_one_acquire_all(&space, 1, &all));
+    EXPECT(GAZ_DONE, gaz_one_end_transaction(&space, 2));
+    EXPECT(GAZ_TIMEOUT, gaz_one_give_up_all(&space, 1, &all));
+    CHECK(tickets_of(1) == 0 && wanted[0].ticket == 0 && wanted[1].ticket == 0);
+    EXPECT(GAZ_NO_WAIT, gaz_one_poll(&space, 1));
+    EXPECT(GAZ_NO_WAIT, gaz_one_give_up_all(&space, 1, &all));
+    EXPECT(GAZ_DONE, try_acquire(2, "t2", GAZ_X, &ticket));
 }
 
 /* The victim of a deadlock gives up what it has acquired with the others, and what it had before stays: it has to end its transaction. */
@@ -724,7 +740,7 @@ static void acquire_all_in_other_orders(void)
 /* A request that is refused leaves none of the others. */
 static void acquire_all_refused(void)
 {
-    struct gaz_request wanted[] = {table_request("t1", GAZ_SW), table_request("", GAZ_SW), request_of(GAZ_SCHEMA, "db", "", GAZ_IX, GAZ_TRANSACTION)};
+    struct gaz_request wanted[] = {table_request("t1", GAZ_SW), table_request("", GAZ_SW), {SCHEMA, GAZ_IX, GAZ_TRANSACTION, 7}};
     struct gaz_requests all = GAZ_REQUESTS_INIT(wanted, 3);
     EXPECT(GAZ_EMPTY_NAME, gaz_one_acquire_all(&space, 1, &all));
     EXPECT(GAZ_EMPTY_NAME, gaz_one_try_all(&space, 1, &all));
@@ -732,7 +748,9 @@ static void acquire_all_refused(void)
     EXPECT(GAZ_BAD_MODE, gaz_one_try_all(&space, 1, &all));
     EXPECT(GAZ_BAD_MODE, gaz_one_acquire_all(&space, 1, &all));
     CHECK(tickets_of(1) == 0);
+    wanted[2].ticket = 7;
     EXPECT(GAZ_NO_SESSION, gaz_one_try_all(&space, SESSIONS + 1, &all));
+    CHECK(wanted[2].ticket == 0);
     EXPECT(GAZ_NO_SESSION, gaz_one_acquire_all(&space, SESSIONS + 1, &all));
 }
 
@@ -806,6 +824,7 @@ int main(void)
     CASE(try_all_or_none);
     CASE(acquire_all_goes_on);
     CASE(acquire_all_lost);
+    CASE(acquire_all_given_up);
     CASE(acquire_all_as_victim);
     CASE(acquire_all_in_other_orders);
     CASE(acquire_all_refused);

@@ -68,7 +68,7 @@ enum gaz_code {
     GAZ_NO_MODE = 21,        /* there is no mode of this number */
     GAZ_EMPTY_NAME = 22,     /* a name has 1 to 255 bytes of UTF-8 */
     GAZ_LONG_NAME = 23,
-    GAZ_BAD_BYTE = 24,       /* a name isn't UTF-8: before the other two, of which the schema's come before the table's */
+    GAZ_BAD_BYTE = 24,       /* a name isn't UTF-8. It is told before the other two, and of these the schema's before the table's */
     GAZ_HAS_CONTEXT = 25,    /* a context keeps the session's tickets */
     GAZ_NO_CONTEXT = 26,     /* none does */
     GAZ_SESSION_IN_USE = 27, /* the session holds a ticket, has a wait or pins a place */

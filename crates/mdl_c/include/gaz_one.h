@@ -11,7 +11,8 @@
    GAZ_WAITING, call gaz_one_search, then wait for a condition variable until gaz_one_poll returns something else, and then call gaz_one_end. If the
    search returns GAZ_NO_MEMORY, a deadlock may be left: give the wait up by gaz_one_time_out. These calls may settle another session's wait:
    gaz_one_release, gaz_one_search, gaz_one_end, gaz_one_kill, gaz_one_time_out, gaz_one_downgrade and gaz_one_merge. After them wake the sessions that
-   gaz_one_settled lists. The table that threads share can't be called from C: its calls wait for latches, and no function that C calls may wait.
+   gaz_one_settled or gaz_one_woken lists. The table that threads share can't be called from C: its calls wait for latches, and no function that C calls
+   may wait.
 
    The program keeps a session's tickets by their numbers, or a context keeps them, from gaz_one_context_begin until gaz_one_context_end: by their
    durations, as a server's transactions need. Then the session requests its locks by gaz_one_acquire and the other calls of contexts below, and those
@@ -30,8 +31,8 @@
    - malloc, realloc and free are of one allocator, and align to 16.
    For all other arguments a call returns a code: any number may be passed as a session, a place, a ticket, a wait or a mode.
 
-   A name has 1 to 255 bytes of UTF-8. Names are equal if their bytes are. So a program whose names don't depend on case, or on accents, folds them first,
-   as its own settings want. */
+   A name has 1 to 255 bytes of UTF-8. (A byte of 0 doesn't end it.) Names are equal if their bytes are. So a program whose names don't depend on case, or on
+   accents, folds them first, as its own settings want. */
 #ifndef GAZ_ONE_H
 #define GAZ_ONE_H
 
@@ -42,7 +43,10 @@
 #include <stdint.h>
 
 #ifdef __cplusplus
+#define GAZ_INLINE inline
 extern "C" {
+#else
+#define GAZ_INLINE static inline
 #endif
 
 /* A manager of locks, or the room for one. */
@@ -60,7 +64,7 @@ uint32_t gaz_one_version(void);
 uint32_t gaz_one_open_version(struct gaz_one_space *space, uint32_t version, uint16_t places, uint16_t sessions);
 
 /* The same, for a program that was built with this header. */
-static inline uint32_t gaz_one_open(struct gaz_one_space *space, uint16_t places, uint16_t sessions)
+GAZ_INLINE uint32_t gaz_one_open(struct gaz_one_space *space, uint16_t places, uint16_t sessions)
 {
     return gaz_one_open_version(space, GAZ_VERSION, places, sessions);
 }
@@ -210,6 +214,12 @@ uint32_t gaz_one_make_transactional(struct gaz_one_space *space, uint16_t who);
    sessions. Where no wait is settled it looks at no session. */
 uint32_t gaz_one_settled(struct gaz_one_space *space, uint16_t *sessions, size_t room, size_t *count);
 
+/* The same, but each wait is told once: DONE. `told` has an entry for each session, from session 1 on: the number of its wait that was told last. All are 0
+   when the space is opened, and only this call writes them. The numbers of a session's waits rise as long as the space is open, also from one context to
+   the next. If there isn't room for all of the sessions, the first ones are written, and `told` stays as it is: call it again with as much room as the count
+   says. gaz_one_settled may be called besides. */
+uint32_t gaz_one_woken(struct gaz_one_space *space, uint64_t *told, size_t entries, uint16_t *sessions, size_t room, size_t *count);
+
 /* The tickets that a session holds, in the order in which it got them: DONE. The call allocates memory, and frees it again. */
 uint32_t gaz_one_held(struct gaz_one_space *space, uint16_t who, struct gaz_ticket *tickets, size_t room, size_t *count);
 
@@ -232,64 +242,68 @@ uint32_t gaz_one_message(uint32_t code, uint8_t *text, size_t room, size_t *leng
 /* ---- names of no bytes */
 
 /* The functions of the library take no null pointer. In C and C++ the names of those that take names stand for the functions below, which pass another
-   pointer for a name of no bytes. A program in another language calls those of the library: it passes no null pointer. */
-static inline const uint8_t *gaz_one_name(const uint8_t *name, size_t length)
+   pointer for a name of no bytes. A program that defines functions of these names itself, as a stand-in for the library, defines GAZ_PLAIN_NAMES first.
+   A program in another language calls the functions of the library: it passes no null pointer. */
+GAZ_INLINE const uint8_t *gaz_one_name(const uint8_t *name, size_t length)
 {
     static const uint8_t none[1] = {0};
     return length > 0 ? name : none;
 }
 
-static inline uint32_t gaz_one_table_inline(struct gaz_one_space *space, uint16_t who, const uint8_t *schema, size_t schema_length,
-                                            const uint8_t *table, size_t table_length, uint16_t *place)
+GAZ_INLINE uint32_t gaz_one_table_inline(struct gaz_one_space *space, uint16_t who, const uint8_t *schema, size_t schema_length,
+                                         const uint8_t *table, size_t table_length, uint16_t *place)
 {
     return gaz_one_table(space, who, gaz_one_name(schema, schema_length), schema_length, gaz_one_name(table, table_length), table_length, place);
 }
-#define gaz_one_table gaz_one_table_inline
 
-static inline uint32_t gaz_one_schema_inline(struct gaz_one_space *space, uint16_t who, const uint8_t *schema, size_t schema_length, uint16_t *place)
+GAZ_INLINE uint32_t gaz_one_schema_inline(struct gaz_one_space *space, uint16_t who, const uint8_t *schema, size_t schema_length, uint16_t *place)
 {
     return gaz_one_schema(space, who, gaz_one_name(schema, schema_length), schema_length, place);
 }
-#define gaz_one_schema gaz_one_schema_inline
 
-static inline uint32_t gaz_one_user_lock_inline(struct gaz_one_space *space, uint16_t who, const uint8_t *name, size_t name_length, uint16_t *place)
+GAZ_INLINE uint32_t gaz_one_user_lock_inline(struct gaz_one_space *space, uint16_t who, const uint8_t *name, size_t name_length, uint16_t *place)
 {
     return gaz_one_user_lock(space, who, gaz_one_name(name, name_length), name_length, place);
 }
-#define gaz_one_user_lock gaz_one_user_lock_inline
 
-static inline uint32_t gaz_one_acquire_inline(struct gaz_one_space *space, uint16_t who, uint8_t namespace_, const uint8_t *schema, size_t schema_length,
-                                              const uint8_t *table, size_t table_length, uint8_t mode, uint8_t duration, uint64_t *number)
+GAZ_INLINE uint32_t gaz_one_acquire_inline(struct gaz_one_space *space, uint16_t who, uint8_t namespace_, const uint8_t *schema, size_t schema_length,
+                                           const uint8_t *table, size_t table_length, uint8_t mode, uint8_t duration, uint64_t *number)
 {
     return gaz_one_acquire(space, who, namespace_, gaz_one_name(schema, schema_length), schema_length, gaz_one_name(table, table_length), table_length,
                            mode, duration, number);
 }
-#define gaz_one_acquire gaz_one_acquire_inline
 
-static inline uint32_t gaz_one_try_acquire_inline(struct gaz_one_space *space, uint16_t who, uint8_t namespace_, const uint8_t *schema,
-                                                  size_t schema_length, const uint8_t *table, size_t table_length, uint8_t mode, uint8_t duration,
-                                                  uint64_t *ticket)
+GAZ_INLINE uint32_t gaz_one_try_acquire_inline(struct gaz_one_space *space, uint16_t who, uint8_t namespace_, const uint8_t *schema,
+                                               size_t schema_length, const uint8_t *table, size_t table_length, uint8_t mode, uint8_t duration,
+                                               uint64_t *ticket)
 {
     return gaz_one_try_acquire(space, who, namespace_, gaz_one_name(schema, schema_length), schema_length, gaz_one_name(table, table_length), table_length,
                                mode, duration, ticket);
 }
-#define gaz_one_try_acquire gaz_one_try_acquire_inline
 
-static inline uint32_t gaz_one_holds_inline(struct gaz_one_space *space, uint16_t who, uint8_t namespace_, const uint8_t *schema, size_t schema_length,
-                                            const uint8_t *table, size_t table_length, uint8_t mode)
+GAZ_INLINE uint32_t gaz_one_holds_inline(struct gaz_one_space *space, uint16_t who, uint8_t namespace_, const uint8_t *schema, size_t schema_length,
+                                         const uint8_t *table, size_t table_length, uint8_t mode)
 {
     return gaz_one_holds(space, who, namespace_, gaz_one_name(schema, schema_length), schema_length, gaz_one_name(table, table_length), table_length,
                          mode);
 }
-#define gaz_one_holds gaz_one_holds_inline
 
-static inline uint32_t gaz_one_release_name_inline(struct gaz_one_space *space, uint16_t who, uint8_t namespace_, const uint8_t *schema,
-                                                   size_t schema_length, const uint8_t *table, size_t table_length)
+GAZ_INLINE uint32_t gaz_one_release_name_inline(struct gaz_one_space *space, uint16_t who, uint8_t namespace_, const uint8_t *schema,
+                                                size_t schema_length, const uint8_t *table, size_t table_length)
 {
     return gaz_one_release_name(space, who, namespace_, gaz_one_name(schema, schema_length), schema_length, gaz_one_name(table, table_length),
                                 table_length);
 }
+
+#ifndef GAZ_PLAIN_NAMES
+#define gaz_one_table gaz_one_table_inline
+#define gaz_one_schema gaz_one_schema_inline
+#define gaz_one_user_lock gaz_one_user_lock_inline
+#define gaz_one_acquire gaz_one_acquire_inline
+#define gaz_one_try_acquire gaz_one_try_acquire_inline
+#define gaz_one_holds gaz_one_holds_inline
 #define gaz_one_release_name gaz_one_release_name_inline
+#endif
 
 #ifdef __cplusplus
 }

@@ -3,7 +3,7 @@ ghost use Rattle.std.specs.Prelude.{◌≡◌, length};
 ghost use Rattle.mdl_key.specs.Keys.{namespace_rank};
 ghost use Rattle.mdl_calls.specs.Words.{List_held};
 ghost use Rattle.mdl_c_calls.specs.Exports.{ServesCall};
-ghost use Rattle.mdl_c_calls.specs.Listings.{HeldTold, IsKept, IsListWritten, ShowsLock, ShowsSpace, lock_rows, settled_sessions};
+ghost use Rattle.mdl_c_calls.specs.Listings.{HeldTold, IsKept, IsListWritten, IsNoted, ShowsLock, ShowsSpace, lock_rows, newly_settled, settled_sessions};
 
 use mdl_c_calls::{HeldRow, LockRow, OneSpace};
 use std::alloc::Global;
@@ -20,6 +20,22 @@ pub extern "C" fn gaz_one_settled(
         (IsKept room.old room.new count.old count.new) (λ m. (result ≡ 0) × IsListWritten (settled_sessions m) room.old room.new count.new) }
 {
     mdl_c_calls::gaz_one_settled(alloc, space, room, count)
+}
+
+/// Writes the sessions whose waits are newly settled, in rising order, and the numbers of these waits among those that are told.
+#[unsafe(no_mangle)]
+pub extern "C" fn gaz_one_woken(
+    alloc: Global,
+    space: &mut OneSpace,
+    told: &mut [u64],
+    room: &mut [u16],
+    count: &mut usize,
+) -> u32
+    ensures { ShowsSpace space.old.handle.manager result space.new.handle.manager
+        ((told.new ≡ told.old) × IsKept room.old room.new count.old count.new)
+        (λ m. (result ≡ 0) × IsListWritten (newly_settled m told.old) room.old room.new count.new × IsNoted m told.old told.new (length room.old)) }
+{
+    mdl_c_calls::gaz_one_woken(alloc, space, told, room, count)
 }
 
 /// Writes the tickets that a session holds, in the order in which it got them.

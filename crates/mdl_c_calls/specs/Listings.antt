@@ -1,8 +1,8 @@
 -- What C can read of the locks: which waits are settled, what a session holds, which keys there are, and who holds and waits for each lock. That is
 -- what the table metadata_locks of MySQL 5.7's Performance Schema shows. The form is this project's own. Reading changes nothing.
-use Rattle.std.specs.Prelude.{◌≡◌, ℕ, Bool, ◌&&◌, List, [], ◌++◌, filter, length, map, take, drop, Option, Some, None, MatchOption, if◌then◌else◌}
+use Rattle.std.specs.Prelude.{◌≡◌, ℕ, zero, suc, ◌-◌, Bool, false, not, ◌&&◌, ◌==◌, nat_le, List, [], ◌++◌, filter, length, map, take, drop, slice_get, slice_set, Option, Some, None, MatchOption, if◌then◌else◌}
 use Rattle.std.specs.List.{range_with_len}
-use Rattle.std.specs.Option.{option_and_then, option_map, option_map_or, option_or}
+use Rattle.std.specs.Option.{option_and_then, option_map, option_map_or, option_or, unwrap_or}
 use Rattle.mdl_key.specs.declared.mode.Duration.{Duration}
 use Rattle.mdl_key.specs.Words.{mode_rank}
 use Rattle.mdl_book.specs.declared.book_view.BookView.{BookView}
@@ -65,6 +65,40 @@ has_settled_wait manager who = has_member who manager && has_settled manager.spa
 -- the sessions that have such waits, in rising order
 abbrev pub settled_sessions : Managed → List ℕ
 settled_sessions manager = filter (has_settled_wait manager) (range_with_len 1 (session_count_of manager))
+
+-- ---- waits that are newly settled
+
+-- the number of a session's settled wait, if the manager has that session and it has a settled wait
+abbrev pub settled_number : ℕ → Managed → Option ℕ
+settled_number who manager =
+    if has_settled_wait manager who then option_map (λ (wait : Pending). wait.number) (seat_at who manager.space).wait else None
+
+-- the number that was told of a session last: the entry of the session, from session 1 on. Without an entry it is 0, which is no wait's number
+abbrev pub told_number : ℕ → List ℕ → ℕ
+told_number who told = unwrap_or (slice_get told (who - 1)) 0
+
+-- whether a session has a settled wait, and its number isn't the one that was told last
+abbrev pub is_newly_settled : Managed → List ℕ → ℕ → Bool
+is_newly_settled manager told who = option_map_or (λ number. not (number == told_number who told)) (settled_number who manager) false
+
+-- the sessions that have such waits, in rising order
+abbrev pub newly_settled : Managed → List ℕ → List ℕ
+newly_settled manager told = filter (is_newly_settled manager told) (range_with_len 1 (session_count_of manager))
+
+-- the numbers told, once those of the settled waits of the first sessions are among them, of so many sessions
+abbrev pub noted_to : Managed → List ℕ → ℕ → List ℕ
+noted_to manager told zero = told
+noted_to manager told (suc n) =
+    option_map_or (λ number. slice_set (noted_to manager told n) n number) (settled_number (suc n) manager) (noted_to manager told n)
+
+-- the same of all sessions
+abbrev pub noted : Managed → List ℕ → List ℕ
+noted manager told = noted_to manager told (session_count_of manager)
+
+-- the newly settled sessions are written, and their waits are told then. If there is no room for all of them, none is
+abbrev pub IsNoted : Managed → List ℕ → List ℕ → ℕ → Type 0
+IsNoted manager told after room =
+    after ≡ (if nat_le (length (newly_settled manager told)) room then noted manager told else told)
 
 -- ---- tickets
 

@@ -30,7 +30,9 @@ pub use handle::OneSpace;
 pub use keys::{
     gaz_one_commit, gaz_one_global, gaz_one_schema, gaz_one_table, gaz_one_unpin, gaz_one_user_lock,
 };
-pub use listings::{gaz_one_held, gaz_one_key_of, gaz_one_locks, gaz_one_places, gaz_one_settled};
+pub use listings::{
+    gaz_one_held, gaz_one_key_of, gaz_one_locks, gaz_one_places, gaz_one_settled, gaz_one_woken,
+};
 pub use mark::Mark;
 pub use messages::gaz_one_message;
 pub use modes::gaz_one_clashes;

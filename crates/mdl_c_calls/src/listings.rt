@@ -5,7 +5,7 @@ ghost use Rattle.mdl_key.specs.Keys.{namespace_rank};
 ghost use Rattle.mdl_calls.specs.Words.{List_held, listed};
 ghost use Rattle.mdl_c_calls.specs.Codes.{code_at, no_place};
 ghost use Rattle.mdl_c_calls.specs.Exports.{ServesCall};
-ghost use Rattle.mdl_c_calls.specs.Listings.{HeldTold, IsKept, IsListWritten, ShowsLock, ShowsSpace, lock_rows, settled_sessions};
+ghost use Rattle.mdl_c_calls.specs.Listings.{HeldTold, IsKept, IsListWritten, IsNoted, ShowsLock, ShowsSpace, lock_rows, newly_settled, settled_sessions};
 
 use crate::codes::{CLOSED, DONE, NO_PLACE, NO_SESSION, cause_code};
 use crate::handle::OneSpace;
@@ -28,6 +28,26 @@ pub fn gaz_one_settled(
         return CLOSED;
     };
     *count = manager.tell_settled(room);
+    space.put(manager);
+    DONE
+}
+
+/// Writes the sessions whose waits are newly settled, in rising order, and the numbers of these waits among those that are told.
+pub fn gaz_one_woken(
+    alloc: Global,
+    space: &mut OneSpace,
+    told: &mut [u64],
+    room: &mut [u16],
+    count: &mut usize,
+) -> u32
+    ensures { ShowsSpace space.old.handle.manager result space.new.handle.manager
+        ((told.new ≡ told.old) × IsKept room.old room.new count.old count.new)
+        (λ m. (result ≡ 0) × IsListWritten (newly_settled m told.old) room.old room.new count.new × IsNoted m told.old told.new (length room.old)) }
+{
+    let Some(mut manager) = space.take(alloc) else {
+        return CLOSED;
+    };
+    *count = manager.tell_woken(told, room);
     space.put(manager);
     DONE
 }

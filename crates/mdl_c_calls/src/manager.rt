@@ -18,6 +18,7 @@ use std::marker::Model;
 
 mod contexts;
 mod lists;
+mod woken;
 
 /// The space of one thread, the number of its sessions, and who keeps the tickets of each. A call of a session that isn't one of them returns `None`,
 /// or an `Unserved`.

@@ -36,19 +36,19 @@ impl ServedSpace {
     }
 
     // How many waits are settled and not ended. It looks at no session.
-    fn settled_waits(&self) -> usize
+    pub(super) fn settled_waits(&self) -> usize
         ensures { result ≡ settled_waits self.now.space.seats }
     {
         self.space.settled_waits()
     }
 
-    fn session_count(&self) -> u16
+    pub(super) fn session_count(&self) -> u16
         ensures { result ≡ session_count_of self.now }
     {
         self.sessions
     }
 
-    fn has_settled_wait(&mut self, who: u16) -> bool
+    pub(super) fn has_settled_wait(&mut self, who: u16) -> bool
         ensures told { result ≡ has_settled_wait self.old who }
         ensures unchanged { self.new ≡ self.old }
     {
@@ -170,7 +170,7 @@ fn waiting_status(how: Option<Settled>) -> u8
 
 // Writes a session at an index of the room, if there is one.
 #[tactic(auto, using(crate::proofs::SettledLemmas::left_past))]
-fn write_at(room: &mut [u16], index: usize, who: u16)
+pub(super) fn write_at(room: &mut [u16], index: usize, who: u16)
     ensures { room.new ≡ slice_set room.old index who }
 {
     if index < room.len() {

@@ -2,7 +2,7 @@
 use Rattle.std.proofs.Common.{◌≡◌, ◌∙◌, ◌+◌, ◌≤◌, [], length, refl, sym, ap, arith}
 use Rattle.mdl_c_calls.specs.Listings.{has_settled_wait, room_written, settled_sessions}
 use Rattle.mdl_c_calls.specs.Managers.{Managed, session_count_of}
-use Rattle.mdl_c_calls.proofs.SettledLemmas.{settled-none, settled-passed, settled-put, settled_to}
+use Rattle.mdl_c_calls.proofs.SettledLemmas.{picked-passed, picked-put, picked_to, settled-none}
 use Rattle.mdl_c_calls.proofs.WrittenLemmas.{written-none}
 use Rattle.mdl_c_calls.proofs.manager.ServedSpace.tell_settled.Goals as goal
 use Rattle.mdl_c_calls.proofs.manager.ServedSpace.tell_settled.Goals.{then-has_settled_wait, else-has_settled_wait}
@@ -25,7 +25,7 @@ loop-index-preserved c =
     let within : index + 1 ≤ session_count_of manager = omega (arith, c.loop-index-test.true, c.session_count-sessions.ensures) in
     elim c.if-has_settled_wait.branch [
       | then-has_settled_wait w ↦
-          (let put = settled-put manager c.args.room.now c.loop-index.room w.write_at.new.room index c.loop-index.count before.written before.counted
+          (let put = picked-put (has_settled_wait manager) c.args.room.now c.loop-index.room w.write_at.new.room index c.loop-index.count before.written before.counted
           (tells ∙ w.if-has_settled_wait.true) w.write_at.ensures in record {
             written = w.room-is ∙ put.0;
             counted = w.count-is ∙ put.1;
@@ -34,7 +34,7 @@ loop-index-preserved c =
             same = c.has_settled_wait.ensures.unchanged ∙ before.same;
           })
       | else-has_settled_wait w ↦
-          (let passed = settled-passed manager index (tells ∙ w.if-has_settled_wait.false) in record {
+          (let passed = picked-passed (has_settled_wait manager) index (tells ∙ w.if-has_settled_wait.false) in record {
             written = w.room-is ∙ before.written ∙ ap (λ xs. room_written xs c.args.room.now) passed;
             counted = w.count-is ∙ before.counted ∙ ap length passed;
             few = omega (arith, w.count-is, before.few);
@@ -48,6 +48,6 @@ returns-clause-told c =
     let manager = c.args.self.now in
     let whole : c.loop-index.index ≡ session_count_of manager =
     omega (arith, c.loop-index-test.false, c.loop-index.invariant.within, c.session_count-sessions.ensures) in (
-      c.loop-index.invariant.written ∙ ap (λ n. room_written (settled_to manager n) c.args.room.now) whole,
-      c.loop-index.invariant.counted ∙ ap (λ n. length (settled_to manager n)) whole,
+      c.loop-index.invariant.written ∙ ap (λ n. room_written (picked_to (has_settled_wait manager) n) c.args.room.now) whole,
+      c.loop-index.invariant.counted ∙ ap (λ n. length (picked_to (has_settled_wait manager) n)) whole,
     )

@@ -1,14 +1,14 @@
 -- The sessions so far are told, and the manager is as it was.
 use Rattle.std.proofs.Common.{◌≡◌, ◌≤◌, length}
-use Rattle.mdl_c_calls.specs.Listings.{room_written}
+use Rattle.mdl_c_calls.specs.Listings.{has_settled_wait, room_written}
 use Rattle.mdl_c_calls.specs.Managers.{session_count_of}
-use Rattle.mdl_c_calls.proofs.SettledLemmas.{settled_to}
+use Rattle.mdl_c_calls.proofs.SettledLemmas.{picked_to}
 use Rattle.mdl_c_calls.proofs.manager.ServedSpace.tell_settled.Given as goal
 
 abbrev pub invariant-loop-index : goal.invariant-loop-index
 invariant-loop-index l = record {
-  written : l.room ≡ room_written (settled_to l.fn.self l.index) l.initial.room;
-  counted : l.count ≡ length (settled_to l.fn.self l.index);
+  written : l.room ≡ room_written (picked_to (has_settled_wait l.fn.self) l.index) l.initial.room;
+  counted : l.count ≡ length (picked_to (has_settled_wait l.fn.self) l.index);
   few : l.count ≤ l.index;
   within : l.index ≤ session_count_of l.fn.self;
   same : l.self ≡ l.fn.self;
