@@ -160,7 +160,7 @@ def wrong_pastes(program):
     lines, wanted = text.splitlines(), found(program, text)
     shapes = {
         "indented": [f"    {line}  " for line in lines],
-        "no edges": [line for line in lines if line[0] == "|"],
+        "no edges": [line for line in lines if line[0] != "+"],
         "edges of bars": ["|-" + line[2:] if line[0] == "+" else line for line in lines[1:-1]],
     }
     for shape, given in shapes.items():
