@@ -7,7 +7,7 @@
 //! # Example
 //!
 //! ```
-//! use mdl_client_table::read_table;
+//! use mdl_client_table::{Form, read_table};
 //!
 //! let alloc = rt.alloc();
 //! let text = b"mysql> SELECT ID, USER FROM information_schema.PROCESSLIST;
@@ -23,6 +23,14 @@
 //!     assert_eq!(rt; row.line(), 5);
 //!     assert_eq!(rt; row.field(1), b"app".as_slice());
 //! }
+//! ```
+//!
+//! ```
+//! use mdl_client_table::Form;
+//!
+//! assert_eq!(rt; Form::begun_by(b"mysql> SELECT a, b;"), None);
+//! assert_eq!(rt; Form::begun_by(b"a,b\tc"), Some(Form::Commas));
+//! assert_eq!(rt; Form::begun_by(b"  +---+"), Some(Form::Boxes));
 //! ```
 #![tactic(auto)]
 
