@@ -318,8 +318,7 @@ impl Visitor {
     /// Gains three fast tickets in these modes and makes them slow. Returns the words of the lock before and after that, or `None` if it doesn't
     /// come so far.
     pub(crate) fn makes_slow<R: Wait>(self, rt: &R, modes: [Mode; 3]) -> Option<(Word, Word)> {
-        let may_gain = self.asks.is_none() && self.slow.is_none() && self.fast.is_none();
-        if !may_gain || self.next > MOST_NUMBERS {
+        if self.asks.is_some() || self.slow.is_some() || self.fast.is_some() {
             drop(self);
             return None;
         }
@@ -330,6 +329,10 @@ impl Visitor {
             next,
             ..
         } = self;
+        if next > MOST_NUMBERS {
+            drop(seat);
+            return None;
+        }
         let words = made_slow(rt, &mut seat, place, kind, next, modes);
         drop(seat);
         words
