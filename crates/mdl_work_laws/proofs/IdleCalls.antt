@@ -1,6 +1,6 @@
 -- A context without a wait has none after a request, unless the request begins one, nor after it changed or released tickets.
-use Rattle.std.proofs.Common.{◌≡◌, ℕ, List, Option, Some, None, Result, Ok, Err}
-use Rattle.std.specs.Prelude.{is_some}
+use Rattle.std.proofs.Common.{◌≡◌, ℕ, false, List, Option, Some, None, Result, Ok, Err, rules}
+use Rattle.std.specs.Prelude.{IsSome, is_some}
 use Rattle.mdl_key.specs.declared.mode.Mode.{Mode}
 use Rattle.mdl_calls.specs.declared.answers.Held.{Held}
 use Rattle.mdl_calls.specs.declared.space_error.SpaceError.{SpaceError}
@@ -29,22 +29,21 @@ use Rattle.mdl_context.proofs.LookUpLemmas.{each_looked_up}
 abbrev pub IsIdle : {A : Type 0} → Outcome A → Type 0
 IsIdle outcome = outcome.1.wait ≡ None
 
--- the context has no wait, unless the request began one
+-- the context has no wait, or has the one that the request began
 abbrev pub IsIdleOrWaits : Outcome Acquire → Type 0
-IsIdleOrWaits (Ok (MustWait number), context) = Unit {0}
+IsIdleOrWaits (Ok (MustWait number), context) = IsSome context.wait
 IsIdleOrWaits (reply, context) = context.wait ≡ None
 
-idle-or : (reply : Result Acquire ContextError) (context : ContextView) → context.wait ≡ None → IsIdleOrWaits (reply, context)
-idle-or (Ok (Acquired id)) context idle = idle
-idle-or (Ok (MustWait number)) context idle = tt
-idle-or (Err error) context idle = idle
+idle-or : (reply : Result Acquire ContextError) (context : ContextView) → got_lock reply ≡ false → context.wait ≡ None → IsIdleOrWaits (reply, context)
+idle-or (Ok reply) context lost idle = cc
+idle-or (Err error) context lost idle = idle
 
 -- ---- requests
 
 idle-got : (place : ℕ) (request : Wish) (context : ContextView) → context.wait ≡ None → (end : Result AskResult SpaceError)
     → IsIdleOrWaits (outcome_got place request context end)
 idle-got place request context idle (Ok (got.Granted id)) = idle
-idle-got place request context idle (Ok (got.Waits number searched)) = tt
+idle-got place request context idle (Ok (got.Waits number searched)) = search rules
 idle-got place request context idle (Err refusal) = idle
 
 idle-reusing : (found : Option Held) (place : ℕ) (request : Wish) (context : ContextView) → context.wait ≡ None → Each IsIdleOrWaits (reusing found place request context)
@@ -58,7 +57,7 @@ idle-reusing None place request context idle = (
 idle-placed : (request : Wish) (context : ContextView) → context.wait ≡ None → (answer : Answer) → Each IsIdleOrWaits (place_answered request context answer)
 idle-placed request context idle (At_place place) =
     let there = remembering request.key place context in
-    each_looked_up {A = Acquire} got_lock place context (Grow (starved context) (acquiring_at place request there)) IsIdleOrWaits (λ reply after lost so. idle-or reply context idle)
+    each_looked_up {A = Acquire} got_lock place context (Grow (starved context) (acquiring_at place request there)) IsIdleOrWaits (λ reply after lost so. idle-or reply context lost idle)
     (idle, idle-reusing (earliest (is_reusable place request) there.kept) place request there idle)
 idle-placed request context idle _ = idle
 
@@ -117,7 +116,7 @@ module _ (context : ContextView) (idle : context.wait ≡ None) where
   idle-second ticket mode (Ok (got.Granted new)) =
       each_then {A = Result (Unit {0}) SpaceError} {B = Outcome Acquire} IsIdleOrWaits (merging_new context.who ticket.id new)
       (λ end. Give (merged (Acquired ticket.id) ticket.id mode context end)) (idle-merged ticket.id mode)
-  idle-second ticket mode (Ok (got.Waits number searched)) = tt
+  idle-second ticket mode (Ok (got.Waits number searched)) = search rules
   idle-second ticket mode (Err refusal) = idle
 
   idle-upgrade : (ticket : Kept) (mode : Mode) (answer : Answer) → Each IsIdleOrWaits (upgrade_answered ticket mode context answer)

@@ -230,17 +230,17 @@ module _ {S : Type 0} (members : Ghosts S) (laws : LawsOf members) (number : ℕ
       after_call {A = Resume} a waiting.context (giving_up_wait waiting.context) (playing.untold mark session) (λ outcome. outcome.1.wait ≡ None) holds
       (λ mid outcome run. stays-giving_up_wait members laws a mid waiting.context holds.clean.attends outcome run) (rests_untold mark session)
 
-  rests_waiting : (wish : Wish) (left : Left) (session : Session) (a : S) → Holds a session.context → AllRest a (playing.beginning_to_wait wish left session)
-  rests_waiting wish left session a holds =
+  rests_waiting : (wish : Wish) (left : Left) (session : Session) (a : S) → Holds a session.context → IsSome session.context.wait → AllRest a (playing.beginning_to_wait wish left session)
+  rests_waiting wish left session a holds waits =
       either_way a (giving_up_wait session.context >>= playing.untold left.mark session) (Give (Begins_to_wait wish.key wish.mode (playing.with_left session left)))
-      (rests_given_up left.mark session session a holds) (rests-given a (Begins_to_wait wish.key wish.mode (playing.with_left session left)) (holds, search rules))
+      (rests_given_up left.mark session session a holds) (rests-given a (Begins_to_wait wish.key wish.mode (playing.with_left session left)) (holds, (waits, search rules)))
 
   rests_acquired : (wish : Wish) (rest : ℕ → Row Reply) (mark : Mark) (session : Session) (more : ℕ → Session → Program Pause)
       → ((id : ℕ) (after : Session) (mid : S) → Holds mid after.context → after.context.wait ≡ None → AllRest mid (more id after)) → (mid : S) (outcome : Outcome Acquire)
       → Holds mid outcome.1 → IsIdleOrWaits outcome → AllRest mid (playing.acquired wish rest mark session more outcome)
   rests_acquired wish rest mark session more made mid (Ok (acquire.Acquired id), context) holds idle = made id (with_context session context) mid holds idle
   rests_acquired wish rest mark session more made mid (Ok (acquire.MustWait number), context) holds idle =
-      rests_waiting wish (record { rest = rest; mark = mark }) (with_context session context) mid holds
+      rests_waiting wish (record { rest = rest; mark = mark }) (with_context session context) mid holds idle
   rests_acquired wish rest mark session more made mid (Err error, context) holds idle = rests_closing (ending_of_error error) mark (with_context session context) mid holds idle
 
   rests_tried : (mark : Mark) (session : Session) (more : Option ℕ → Session → Program Pause)
@@ -352,7 +352,7 @@ module _ {S : Type 0} (members : Ghosts S) (laws : LawsOf members) (number : ℕ
 
   rests_resumed : (left : Left) (session : Session) (mid : S) (outcome : Outcome Resume) → Holds mid outcome.1 → IsOver outcome → AllRest mid (playing.resumed left session outcome)
   rests_resumed left session mid (Ok resume.Waiting, context) holds over =
-      rests-given mid (Waits_on (playing.with_left (with_context session context) left)) (holds, search rules)
+      rests-given mid (Waits_on (playing.with_left (with_context session context) left)) (holds, (over, search rules))
   rests_resumed left session mid (Ok (resume.Acquired id), context) holds idle = rests_play (left.rest id) left.mark (with_context session context) mid holds idle
   rests_resumed left session mid (Ok (resume.Lost how), context) holds idle =
       rests_closing (ending_of_loss (waits_for_user_lock session.context) how) left.mark (with_context session context) mid holds idle

@@ -1,6 +1,6 @@
 -- A context whose wait goes on or is given up goes on to attend to its session, and leaves no pin behind. It has no wait then, unless that isn't settled.
-use Rattle.std.proofs.Common.{◌≡◌, ◌⊎◌, ℕ, Bool, true, false, Option, Some, None, option_map, Result, Ok, Err, inl, inr, refl, sym, ap, ◌∙◌, subst}
-use Rattle.std.specs.Prelude.{MatchOption, is_some, if◌then◌else◌}
+use Rattle.std.proofs.Common.{◌≡◌, ◌⊎◌, ℕ, Bool, true, false, Option, Some, None, option_map, Result, Ok, Err, inl, inr, refl, sym, ap, ◌∙◌, subst, rules}
+use Rattle.std.specs.Prelude.{IsSome, MatchOption, is_some, if◌then◌else◌}
 use Rattle.std.specs.Option.{IfSome}
 use Rattle.mdl_key.specs.declared.mode.Mode.{Mode}
 use Rattle.mdl_system.specs.Strength.{covers}
@@ -38,14 +38,29 @@ use Rattle.mdl_work_laws.proofs.TicketRuns.{attends-given, attends-merged, atten
 
 -- there is no wait after a call about it, unless it isn't settled
 abbrev pub IsOver : Outcome Resume → Type 0
-IsOver (Ok resume.Waiting, context) = Unit {0}
+IsOver (Ok resume.Waiting, context) = IsSome context.wait
 IsOver (reply, context) = context.wait ≡ None
 
-is-over : (reply : Result Resume ContextError) (context : ContextView) → context.wait ≡ None → IsOver (reply, context)
-is-over (Ok resume.Waiting) context idle = tt
-is-over (Ok (resume.Acquired id)) context idle = idle
-is-over (Ok (resume.Lost how)) context idle = idle
-is-over (Err error) context idle = idle
+-- the wait has ended
+abbrev IsEnded : Outcome Resume → Type 0
+IsEnded (Ok resume.Waiting, context) = ⊥
+IsEnded (reply, context) = context.wait ≡ None
+
+is-over : (reply : Result Resume ContextError) (context : ContextView) → IsEnded (reply, context) → IsOver (reply, context)
+is-over (Ok resume.Waiting) context ended = absurd ended
+is-over (Ok (resume.Acquired id)) context ended = ended
+is-over (Ok (resume.Lost how)) context ended = ended
+is-over (Err error) context ended = ended
+
+is-idle : (reply : Result Resume ContextError) (context : ContextView) → IsEnded (reply, context) → context.wait ≡ None
+is-idle (Ok resume.Waiting) context ended = absurd ended
+is-idle (Ok (resume.Acquired id)) context ended = ended
+is-idle (Ok (resume.Lost how)) context ended = ended
+is-idle (Err error) context ended = ended
+
+has-wait : (wait : Option Wanted) → is_some wait ≡ true → IsSome wait
+has-wait None waits = cc
+has-wait (Some wanted) waits = search rules
 
 -- ---- answers
 
@@ -75,16 +90,16 @@ none-searched (Some wanted) none = cc
 unwrap : {X : Type 0} {x y : X} → Some x ≡ Some y → x ≡ y
 unwrap e = cc
 
--- ---- contexts without a wait
+-- ---- waits that have ended
 
-idle-merged : {A : Type 0} (answer : A) (id : ℕ) (mode : Mode) (context : ContextView) (end : Result (Unit {0}) SpaceError)
-    → let o : Outcome A = merged answer id mode context end in o.1.wait ≡ context.wait
-idle-merged answer id mode context (Ok done) = refl
-idle-merged answer id mode context (Err refusal) = refl
+ended-merged : (id : ℕ) (mode : Mode) (context : ContextView) → context.wait ≡ None → (end : Result (Unit {0}) SpaceError)
+    → IsEnded (merged (resume.Acquired id) id mode context end)
+ended-merged id mode context idle (Ok done) = idle
+ended-merged id mode context idle (Err refusal) = idle
 
-idle-tidying : {A : Type 0} (reply : Result A ContextError) (context : ContextView) → context.wait ≡ None → Each (λ (o : Outcome A). o.1.wait ≡ None) (tidying (reply, context))
-idle-tidying {A} reply context idle =
-    each_then {A = Unit {0}} {B = Outcome A} (λ o. o.1.wait ≡ None) (unpinning_all context.who (unneeded context)) (λ _. Give (reply, tidied context)) (λ _. idle)
+ended-tidying : (reply : Result Resume ContextError) (context : ContextView) → IsEnded (reply, tidied context) → Each IsEnded (tidying (reply, context))
+ended-tidying reply context ended =
+    each_then {A = Unit {0}} {B = Outcome Resume} IsEnded (unpinning_all context.who (unneeded context)) (λ _. Give (reply, tidied context)) (λ _. ended)
 
 -- ---- over a space
 
@@ -92,25 +107,25 @@ module _ {S : Type 0} (members : Ghosts S) (laws : LawsOf members) where
   -- the wait is over, and the context attends to its session
   record Ended (b : S) (reply : Outcome Resume) : Type 0 where
     attends : Attends members b reply.1
-    idle : reply.1.wait ≡ None
+    ended : IsEnded reply
 
   record Resumed (b : S) (reply : Outcome Resume) : Type 0 where
     attends : Attends members b reply.1
     over : IsOver reply
 
-  ended-given : (mid b : S) (given reply : Outcome Resume) → Attends members mid given.1 → given.1.wait ≡ None → given ≡ reply → mid ≡ b → Ended b reply
-  ended-given mid b given reply attends idle same here =
-      record { attends = attends-given {A = Resume} members mid b given reply attends same here; idle = subst (λ (o : Outcome Resume). o.1.wait ≡ None) same idle }
+  ended-given : (mid b : S) (given reply : Outcome Resume) → Attends members mid given.1 → IsEnded given → given ≡ reply → mid ≡ b → Ended b reply
+  ended-given mid b given reply attends ended same here =
+      record { attends = attends-given {A = Resume} members mid b given reply attends same here; ended = subst IsEnded same ended }
 
   resumed : (b : S) (reply : Outcome Resume) → Ended b reply → Resumed b reply
-  resumed b reply ended = record { attends = ended.attends; over = is-over reply.0 reply.1 ended.idle }
+  resumed b reply ended = record { attends = ended.attends; over = is-over reply.0 reply.1 ended.ended }
 
   -- the context lets go of places once its wait is over
-  lets-go : (reply : Result Resume ContextError) (context : ContextView) (a b : S) (end : Outcome Resume) → Attends members a context → context.wait ≡ None
+  lets-go : (reply : Result Resume ContextError) (context : ContextView) (a b : S) (end : Outcome Resume) → Attends members a context → IsEnded (reply, tidied context)
       → Runs members.joins a (tidying (reply, context)) end b → Ended b end
-  lets-go reply context a b end attends idle run = record {
+  lets-go reply context a b end attends ended run = record {
     attends = attends-tidying members laws {A = Resume} reply context a b end attends run;
-    idle = each_reply members.joins (λ (o : Outcome Resume). o.1.wait ≡ None) (tidying (reply, context)) a b end (idle-tidying {A = Resume} reply context idle) run;
+    ended = each_reply members.joins IsEnded (tidying (reply, context)) a b end (ended-tidying reply context ended) run;
   }
 
   module _ (context : ContextView) where
@@ -139,9 +154,9 @@ module _ {S : Type 0} (members : Ghosts S) (laws : LawsOf members) where
           → Runs members.joins mid (wait_won (Some (id, mode)) new context) reply b → Ended b reply
       united id mode reply has run = record {
         attends = attends-merged members laws {A = Resume} (resume.Acquired id) id new mode mid b (without_wait context) reply has refl run;
-        idle = each_reply members.joins (λ (o : Outcome Resume). o.1.wait ≡ None) (wait_won (Some (id, mode)) new context) mid b reply
-            (each_then {A = Result (Unit {0}) SpaceError} {B = Outcome Resume} (λ o. o.1.wait ≡ None) (merging_new context.who id new)
-            (λ end. Give (merged (resume.Acquired id) id mode (without_wait context) end)) (idle-merged {A = Resume} (resume.Acquired id) id mode (without_wait context))) run;
+        ended = each_reply members.joins IsEnded (wait_won (Some (id, mode)) new context) mid b reply
+            (each_then {A = Result (Unit {0}) SpaceError} {B = Outcome Resume} IsEnded (merging_new context.who id new)
+            (λ end. Give (merged (resume.Acquired id) id mode (without_wait context) end)) (ended-merged id mode (without_wait context) refl)) run;
       }
 
       won-for : (wanted : Wanted) (u : Option ℕ) (id : ℕ) (mode : Mode) (reply : Outcome Resume) → context.wait ≡ Some wanted → wanted.upgrades ≡ u
@@ -203,7 +218,7 @@ module _ {S : Type 0} (members : Ghosts S) (laws : LawsOf members) where
       looks-pending mid step run =
           record {
             attends = attends-given {A = Resume} members mid b (Ok resume.Waiting, context) reply (still mid Pending step) run.0 run.1;
-            over = subst IsOver run.0 tt;
+            over = subst IsOver run.0 (has-wait context.wait waits);
           }
 
       looks-settled : (mid : S) (how : Settled) → Looked mid (Is_settled how)
@@ -298,5 +313,5 @@ module _ {S : Type 0} (members : Ghosts S) (laws : LawsOf members) where
             attends = there.attends;
             tidy = leaves-none members laws a context attends (giving_up_wait context) b reply (none-giving_up_wait members laws a context attends) run there.attends;
           },
-          there.idle,
+          is-idle reply.0 reply.1 there.ended,
         )

@@ -158,10 +158,10 @@ module _ {S : Type 0} (members : Ghosts S) (laws : LawsOf members) (number : ℕ
   stops-from patience more a b (Faults session) end rests later run = stops-given a b (Faults session) end (rests.0, tt) run.0 run.1
   stops-from patience more a b (Begins_to_wait key mode session) end rests later run =
       let parts = parted {A = Pause} {B = Pause} members.joins (going_further patience session) more a b end run in
-      later parts.1 parts.0 (rests-further patience session a rests.1 rests.0 parts.1 parts.0 parts.2) parts.3
+      later parts.1 parts.0 (rests-further patience session a rests.1.1 rests.0 parts.1 parts.0 parts.2) parts.3
   stops-from patience more a b (Waits_on session) end rests later run =
       let parts = parted {A = Pause} {B = Pause} members.joins (going_further patience session) more a b end run in
-      later parts.1 parts.0 (rests-further patience session a rests.1 rests.0 parts.1 parts.0 parts.2) parts.3
+      later parts.1 parts.0 (rests-further patience session a rests.1.1 rests.0 parts.1 parts.0 parts.2) parts.3
 
   stops-finishing : (patience waits : ℕ) (a b : S) (pause end : Pause) → Rests members laws number a pause → Runs members.joins a (finishing patience waits pause) end b → Stops b end
   unfolding finishing

@@ -21,12 +21,12 @@ pub record HasNoSparePin {S : Type 0} (members : Ghosts S) (space : S) (context 
   pub attends : Attends members space context
   pub just : PinsJustNeeded members space context
 
--- the session is ready for what follows: it has no wait once its statement has ended, so that it can start another one, and something is left of a statement
--- that waits, so that it can continue
+-- the session is ready for what follows: it has no wait once its statement has ended, so that it can start another one. While it waits for a lock, it has a
+-- wait, and something is left of its statement, so that it can continue
 abbrev pub IsReadyForMore : Pause → Type 0
 IsReadyForMore (Ends reply session) = session.context.wait ≡ None
-IsReadyForMore (Begins_to_wait key mode session) = IsSome session.left
-IsReadyForMore (Waits_on session) = IsSome session.left
+IsReadyForMore (Begins_to_wait key mode session) = IsSome session.context.wait × IsSome session.left
+IsReadyForMore (Waits_on session) = IsSome session.context.wait × IsSome session.left
 IsReadyForMore (Faults session) = session.context.wait ≡ None
 
 -- no run of a session's program leaves a pin behind that its context doesn't need, whatever the lock space answered and however far the statement came
