@@ -1,8 +1,8 @@
 //! The forms of statements: key words, and what follows them.
-ghost use Rattle.std.specs.Prelude.{◌≡◌, ◌<◌, ◌++◌, ◌∷◌, [], Ok, Err, length, map, IfOk, MatchResult};
+ghost use Rattle.std.specs.Prelude.{◌≡◌, ◌≢◌, ◌<◌, ◌++◌, ◌∷◌, [], Ok, Err, codes, length, map, IfOk, MatchResult};
 ghost use Rattle.mdl_key.specs.Keys.{table_key};
 ghost use Rattle.mdl_lines.specs.Lines.{words_of};
-ghost use Rattle.mdl_syntax.specs.declared.statement.Statement.TheVariants.{Savepoint, RollbackTo, CreateTable, RenameTable, AlterTable, KillQuery, GetLock, ReleaseLock};
+ghost use Rattle.mdl_syntax.specs.declared.statement.Statement.TheVariants.{Select, Savepoint, RollbackTo, CreateTable, RenameTable, AlterTable, KillQuery, GetLock, ReleaseLock};
 ghost use Rattle.mdl_syntax.specs.Forms as forms;
 ghost use Rattle.mdl_syntax.specs.Reading.{alter_of, kill_of, ReadsAs, create_of, rename_of, flush_of, unlock_of, write_of, lock_of, next_lock_type, drop_of};
 
@@ -26,23 +26,44 @@ pub(crate) fn statement_of(alloc: Global, words: &[u8]) -> Result<Statement, NoS
     let Some((word, rest)) = split_word(words) else {
         return bad_word();
     };
+    if word == b"SELECT".as_slice() {
+        return select(alloc, rest);
+    }
+    if word == b"INSERT".as_slice() {
+        return write(alloc, rest);
+    }
+    if word == b"COMMIT".as_slice() {
+        return no_more(Statement::Commit, rest);
+    }
+    if word == b"BEGIN".as_slice() {
+        return no_more(Statement::Begin, rest);
+    }
+    rarer_statement(alloc, word, rest)
+}
+
+// Returns the statement that begins with a word other than the most frequent ones.
+#[inline(never)]
+fn rarer_statement(alloc: Global, word: &[u8], rest: &[u8]) -> Result<Statement, NoStatement>
+    requires select { word.now ≢ codes "SELECT" }
+    requires insert { word.now ≢ codes "INSERT" }
+    requires commit { word.now ≢ codes "COMMIT" }
+    requires begin { word.now ≢ codes "BEGIN" }
+    ensures { ReadsAs (forms.statement_of (word.now ∷ words_of rest.now)) result }
+{
     let Ok(key_word) = str::from_utf8(word) else {
         return bad_word();
     };
     match key_word {
-        "BEGIN" => no_more(Statement::Begin, rest),
         "START" => match behind("TRANSACTION", rest) {
             Some(rest) => no_more(Statement::Begin, rest),
             None => bad_word(),
         },
-        "COMMIT" => no_more(Statement::Commit, rest),
         "ROLLBACK" => match behind("TO", rest) {
             Some(rest) => Ok(Statement::RollbackTo(one_name(alloc, rest)?)),
             None => no_more(Statement::Rollback, rest),
         },
         "SAVEPOINT" => Ok(Statement::Savepoint(one_name(alloc, rest)?)),
-        "SELECT" => Ok(Statement::Select(some_tables(alloc, rest)?)),
-        "INSERT" | "UPDATE" | "DELETE" => write(alloc, rest),
+        "UPDATE" | "DELETE" => write(alloc, rest),
         "CREATE" => create(alloc, rest),
         "DROP" => drop(alloc, rest),
         "RENAME" => rename(alloc, rest),
@@ -56,6 +77,13 @@ pub(crate) fn statement_of(alloc: Global, words: &[u8]) -> Result<Statement, NoS
         "RELEASE_LOCK" => release_lock(alloc, rest),
         _ => bad_word(),
     }
+}
+
+// Reads the tables to read.
+fn select(alloc: Global, words: &[u8]) -> Result<Statement, NoStatement>
+    ensures { ReadsAs (forms.makes Select forms.some_tables (words_of words.now)) result }
+{
+    Ok(Statement::Select(some_tables(alloc, words)?))
 }
 
 // Refuses words that have no form, or are one too few or too many.
