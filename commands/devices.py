@@ -122,7 +122,9 @@ def cases_of_mdlview(program):
     asked += [(words, None) for words in ("query", "query --server mariadb", "--version", "--help")]
     for words, given in asked:
         answer = subprocess.run([program, *words.split()], input=given or b"", capture_output=True, check=True).stdout
-        yield Case(words, given, answer, LONG_INPUTS.get(words), given and b"x\n" + given)
+        # A line without a separator above a table is passed over. One with a tab begins another table.
+        above = b"x\ty\n" if given is ROWS else b"x\n"
+        yield Case(words, given, answer, LONG_INPUTS.get(words), given and above + given)
 
 
 def begin(program, words, before=None, **streams):
