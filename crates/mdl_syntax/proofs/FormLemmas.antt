@@ -1,8 +1,6 @@
 -- Words that fit no form.
 use Rattle.std.proofs.Common.{◌≡◌, Bool, true, false, ℕ, List, [], ◌∷◌, Some, None, if◌then◌else◌, codes, refl, ap, subst, sym}
 use Rattle.std.specs.Prelude.{Result, Err}
-use lib.Utf8.{encode}
-use Rattle.std.specs.Str.{IsUtf8}
 use Rattle.std.proofs.lemmas.Slice.Eq.{bytes_eq-Decides}
 use Rattle.mdl_lines.specs.declared.fault.LineError.TheVariants.{BadWord}
 use Rattle.mdl_lines.specs.Lines.{same_text}
@@ -44,34 +42,6 @@ statement_of-unknown word words n0 n1 n2 n3 n4 n5 n6 n7 n8 n9 n10 n11 n12 n13 n1
       differs word (codes "GET_LOCK") n18,
       differs word (codes "RELEASE_LOCK") n19,
     ) refl
-
--- what is no text is no key word
-pub statement_of-no_text : (word : List ℕ) (words : List (List ℕ)) → (IsUtf8 word → ⊥) → statement_of (word ∷ words) ≡ Err BadWord
-unfolding encode
-statement_of-no_text word words bad =
-    statement_of-unknown word words
-    (not_it (codes "BEGIN") (codes "BEGIN", (refl, refl)))
-    (not_it (codes "START") (codes "START", (refl, refl)))
-    (not_it (codes "COMMIT") (codes "COMMIT", (refl, refl)))
-    (not_it (codes "ROLLBACK") (codes "ROLLBACK", (refl, refl)))
-    (not_it (codes "SAVEPOINT") (codes "SAVEPOINT", (refl, refl)))
-    (not_it (codes "SELECT") (codes "SELECT", (refl, refl)))
-    (not_it (codes "INSERT") (codes "INSERT", (refl, refl)))
-    (not_it (codes "UPDATE") (codes "UPDATE", (refl, refl)))
-    (not_it (codes "DELETE") (codes "DELETE", (refl, refl)))
-    (not_it (codes "CREATE") (codes "CREATE", (refl, refl)))
-    (not_it (codes "DROP") (codes "DROP", (refl, refl)))
-    (not_it (codes "RENAME") (codes "RENAME", (refl, refl)))
-    (not_it (codes "ALTER") (codes "ALTER", (refl, refl)))
-    (not_it (codes "LOCK") (codes "LOCK", (refl, refl)))
-    (not_it (codes "UNLOCK") (codes "UNLOCK", (refl, refl)))
-    (not_it (codes "FLUSH") (codes "FLUSH", (refl, refl)))
-    (not_it (codes "KILL") (codes "KILL", (refl, refl)))
-    (not_it (codes "TIMEOUT") (codes "TIMEOUT", (refl, refl)))
-    (not_it (codes "GET_LOCK") (codes "GET_LOCK", (refl, refl)))
-    (not_it (codes "RELEASE_LOCK") (codes "RELEASE_LOCK", (refl, refl))) where
-      not_it : (text : List ℕ) → IsUtf8 text → word ≡ text → ⊥
-      not_it text is e = bad (subst IsUtf8 (sym e) is)
 
 -- a statement is read by its first word
 pub says-at : (text : List ℕ) (line words : List (List ℕ)) (word : List ℕ) (result : Result Statement NoStatement) → line ≡ word ∷ words → word ≡ text →

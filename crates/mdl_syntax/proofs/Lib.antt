@@ -5,4 +5,5 @@ pub mod NameLemmas
 pub mod Reading
 pub mod ResultLemmas
 pub mod TableLemmas
+pub mod VerbLemmas
 pub mod WordLemmas

@@ -4,3 +4,5 @@ pub mod Laws
 pub mod Names
 pub mod Reading
 pub mod Scripts
+pub mod Tables
+pub mod Verbs

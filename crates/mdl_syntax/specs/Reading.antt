@@ -7,7 +7,7 @@ use Rattle.mdl_syntax.specs.declared.no_statement.NoStatement.{NoStatement}
 use Rattle.mdl_syntax.specs.declared.no_statement.NoStatement.TheVariants.{Refused, Memory}
 use Rattle.mdl_syntax.specs.declared.statement.Priority.TheVariants.{Normal, Low}
 use Rattle.mdl_syntax.specs.declared.statement.Statement.{Statement}
-use Rattle.mdl_syntax.specs.declared.statement.Statement.TheVariants.{CreateTable, CreateSchema, RenameTable, AlterTable, KillQuery, UnlockTables, FlushTablesWithReadLock, LockTables, DropTables, DropSchema}
+use Rattle.mdl_syntax.specs.declared.statement.Statement.TheVariants.{Begin, Rollback, RollbackTo, CreateTable, CreateSchema, RenameTable, AlterTable, KillQuery, UnlockTables, FlushTablesWithReadLock, LockTables, DropTables, DropSchema}
 use Rattle.mdl_syntax.specs.Forms.{alteration, one_session, form, makes, no_more, one_name, read_by, table_and_columns, table_to_table, writes, and_then, lock_type_of, or_refuse, some_locks, some_tables}
 use Rattle.mdl_syntax.specs.KeyWords.{behind}
 
@@ -16,6 +16,14 @@ abbrev pub ReadsAs : {A : Type 0} → Result A LineError → Result A NoStatemen
 ReadsAs said (Ok value) = said ≡ Ok value
 ReadsAs said (Err (Refused error)) = said ≡ Err error
 ReadsAs said (Err Memory) = IsOk said
+
+-- what the words after START say
+abbrev pub start_of : List (List ℕ) → Result Statement LineError
+start_of words = read_by (form (codes "TRANSACTION") (no_more Begin)) (behind (codes "TRANSACTION" ∷ []) words) (Err BadWord)
+
+-- what the words after ROLLBACK say
+abbrev pub rollback_of : List (List ℕ) → Result Statement LineError
+rollback_of words = read_by (form (codes "TO") (makes RollbackTo one_name)) (behind (codes "TO" ∷ []) words) (no_more Rollback words)
 
 -- what the words after INSERT, UPDATE or DELETE say
 abbrev pub write_of : List (List ℕ) → Result Statement LineError

@@ -2,13 +2,14 @@
 ghost use Rattle.std.specs.Prelude.{◌≡◌, ◌<◌, ◌++◌, ◌∷◌, [], Ok, Err, length, map, IfOk, MatchResult};
 ghost use Rattle.mdl_key.specs.Keys.{table_key};
 ghost use Rattle.mdl_lines.specs.Lines.{words_of};
-ghost use Rattle.mdl_syntax.specs.declared.statement.Statement.TheVariants.{Savepoint, RollbackTo, CreateTable, RenameTable, AlterTable, KillQuery, GetLock, ReleaseLock};
+ghost use Rattle.mdl_syntax.specs.declared.statement.Statement.TheVariants.{Savepoint, Select, CreateTable, RenameTable, AlterTable, KillQuery, GetLock, ReleaseLock};
 ghost use Rattle.mdl_syntax.specs.Forms as forms;
-ghost use Rattle.mdl_syntax.specs.Reading.{alter_of, kill_of, ReadsAs, create_of, rename_of, flush_of, unlock_of, write_of, lock_of, next_lock_type, drop_of};
+ghost use Rattle.mdl_syntax.specs.Reading.{alter_of, kill_of, ReadsAs, create_of, rename_of, flush_of, unlock_of, write_of, lock_of, next_lock_type, drop_of, rollback_of, start_of};
 
 use crate::key_words::behind;
 use crate::no_statement::NoStatement;
-use crate::table_names::{TableName, TableNames, name_of, other_table, table_of};
+use crate::table_names::{TableName, TableNames, name_of, named_key, other_table, table_of};
+use crate::verb::{Verb, verb_of};
 use crate::words::split_word;
 use crate::{
     Algorithm, Alteration, LockType, Name, Priority, Statement, TableLock, TableLocks, Tables,
@@ -17,7 +18,7 @@ use mdl_defs::{Change, Column, Columns, MOST_COLUMNS};
 use mdl_key::Key;
 use mdl_lines::{LineError, session_of};
 use std::alloc::{AllocError, Global};
-use std::{mem, str};
+use std::mem;
 
 /// Returns the statement that words say. Words that are wrong are refused also if memory ran out before.
 pub(crate) fn statement_of(alloc: Global, words: &[u8]) -> Result<Statement, NoStatement>
@@ -26,35 +27,30 @@ pub(crate) fn statement_of(alloc: Global, words: &[u8]) -> Result<Statement, NoS
     let Some((word, rest)) = split_word(words) else {
         return bad_word();
     };
-    let Ok(key_word) = str::from_utf8(word) else {
+    let Some(verb) = verb_of(word) else {
         return bad_word();
     };
-    match key_word {
-        "BEGIN" => no_more(Statement::Begin, rest),
-        "START" => match behind("TRANSACTION", rest) {
-            Some(rest) => no_more(Statement::Begin, rest),
-            None => bad_word(),
-        },
-        "COMMIT" => no_more(Statement::Commit, rest),
-        "ROLLBACK" => match behind("TO", rest) {
-            Some(rest) => Ok(Statement::RollbackTo(one_name(alloc, rest)?)),
-            None => no_more(Statement::Rollback, rest),
-        },
-        "SAVEPOINT" => Ok(Statement::Savepoint(one_name(alloc, rest)?)),
-        "SELECT" => Ok(Statement::Select(some_tables(alloc, rest)?)),
-        "INSERT" | "UPDATE" | "DELETE" => write(alloc, rest),
-        "CREATE" => create(alloc, rest),
-        "DROP" => drop(alloc, rest),
-        "RENAME" => rename(alloc, rest),
-        "ALTER" => alter(alloc, rest),
-        "LOCK" => lock_tables(alloc, rest),
-        "UNLOCK" => unlock(rest),
-        "FLUSH" => flush(rest),
-        "KILL" => kill(rest),
-        "TIMEOUT" => no_more(Statement::Timeout, rest),
-        "GET_LOCK" => get_lock(alloc, rest),
-        "RELEASE_LOCK" => release_lock(alloc, rest),
-        _ => bad_word(),
+    match verb {
+        Verb::Begin => no_more(Statement::Begin, rest),
+        Verb::Start => start(rest),
+        Verb::Commit => no_more(Statement::Commit, rest),
+        Verb::Rollback => rollback(alloc, rest),
+        Verb::Savepoint => savepoint(alloc, rest),
+        Verb::Select => select(alloc, rest),
+        Verb::Insert => write(alloc, rest),
+        Verb::Update => write(alloc, rest),
+        Verb::Delete => write(alloc, rest),
+        Verb::Create => create(alloc, rest),
+        Verb::Drop => drop(alloc, rest),
+        Verb::Rename => rename(alloc, rest),
+        Verb::Alter => alter(alloc, rest),
+        Verb::Lock => lock_tables(alloc, rest),
+        Verb::Unlock => unlock(rest),
+        Verb::Flush => flush(rest),
+        Verb::Kill => kill(rest),
+        Verb::Timeout => no_more(Statement::Timeout, rest),
+        Verb::GetLock => get_lock(alloc, rest),
+        Verb::ReleaseLock => release_lock(alloc, rest),
     }
 }
 
@@ -76,6 +72,40 @@ fn no_more(statement: Statement, words: &[u8]) -> Result<Statement, NoStatement>
             bad_word()
         }
     }
+}
+
+// Reads what follows START.
+fn start(words: &[u8]) -> Result<Statement, NoStatement>
+    ensures { ReadsAs (start_of (words_of words.now)) result }
+{
+    match behind("TRANSACTION", words) {
+        Some(rest) => no_more(Statement::Begin, rest),
+        None => bad_word(),
+    }
+}
+
+// Reads what follows ROLLBACK: nothing, or the savepoint to go back to.
+fn rollback(alloc: Global, words: &[u8]) -> Result<Statement, NoStatement>
+    ensures { ReadsAs (rollback_of (words_of words.now)) result }
+{
+    match behind("TO", words) {
+        Some(rest) => Ok(Statement::RollbackTo(one_name(alloc, rest)?)),
+        None => no_more(Statement::Rollback, words),
+    }
+}
+
+// Reads the name of a new savepoint.
+fn savepoint(alloc: Global, words: &[u8]) -> Result<Statement, NoStatement>
+    ensures { ReadsAs (forms.makes Savepoint forms.one_name (words_of words.now)) result }
+{
+    Ok(Statement::Savepoint(one_name(alloc, words)?))
+}
+
+// Reads the tables to select from.
+fn select(alloc: Global, words: &[u8]) -> Result<Statement, NoStatement>
+    ensures { ReadsAs (forms.makes Select forms.some_tables (words_of words.now)) result }
+{
+    Ok(Statement::Select(some_tables(alloc, words)?))
 }
 
 // Reads one name.
@@ -101,16 +131,23 @@ fn one_name(alloc: Global, words: &[u8]) -> Result<Name, NoStatement>
 fn one_table(alloc: Global, words: &[u8]) -> Result<Key, NoStatement>
     ensures { ReadsAs (forms.one_table (words_of words.now)) result }
 {
-    let Some((word, rest)) = split_word(words) else {
-        return Err(NoStatement::Refused(LineError::BadWord));
-    };
-    let Some(table) = table_of(word) else {
-        return Err(NoStatement::Refused(LineError::BadName));
-    };
-    if split_word(rest).is_some() {
-        return Err(NoStatement::Refused(LineError::BadWord));
+    match split_word(words) {
+        Some((word, rest)) => last_table(alloc, word, rest),
+        None => Err(NoStatement::Refused(LineError::BadWord)),
     }
-    Ok(key_of(alloc, &table)?)
+}
+
+// Reads the table that a word names, if no word is left after it.
+fn last_table(alloc: Global, word: &[u8], words: &[u8]) -> Result<Key, NoStatement>
+    ensures { ReadsAs (forms.one_table (word.now ∷ words_of words.now)) result }
+{
+    if split_word(words).is_none() {
+        return named_key(alloc, word);
+    }
+    match table_of(word) {
+        Some(_) => Err(NoStatement::Refused(LineError::BadWord)),
+        None => Err(NoStatement::Refused(LineError::BadName)),
+    }
 }
 
 // Returns the key of a table whose names have been checked.
@@ -127,20 +164,43 @@ fn key_of(alloc: Global, name: &TableName) -> Result<Key, AllocError>
 fn write(alloc: Global, words: &[u8]) -> Result<Statement, NoStatement>
     ensures { ReadsAs (write_of (words_of words.now)) result }
 {
-    match behind("LOW_PRIORITY", words) {
-        Some(rest) => Ok(Statement::Write {
+    let Some((word, rest)) = split_word(words) else {
+        return bad_word();
+    };
+    if word == b"LOW_PRIORITY".as_slice() {
+        return Ok(Statement::Write {
             table: one_table(alloc, rest)?,
             priority: Priority::Low,
-        }),
-        None => Ok(Statement::Write {
-            table: one_table(alloc, words)?,
-            priority: Priority::Normal,
-        }),
+        });
     }
+    Ok(Statement::Write {
+        table: last_table(alloc, word, rest)?,
+        priority: Priority::Normal,
+    })
 }
 
-// Reads tables.
+// Reads tables. Most statements name one.
 fn some_tables(alloc: Global, words: &[u8]) -> Result<Tables, NoStatement>
+    ensures { ReadsAs (forms.some_tables (words_of words.now)) result }
+{
+    let Some((word, rest)) = split_word(words) else {
+        return Err(NoStatement::Refused(LineError::BadWord));
+    };
+    if split_word(rest).is_none() {
+        return only_table(alloc, word);
+    }
+    many_tables(alloc, words)
+}
+
+// Reads the only table of a statement.
+fn only_table(alloc: Global, word: &[u8]) -> Result<Tables, NoStatement>
+    ensures { ReadsAs (forms.some_tables (word.now ∷ [])) result }
+{
+    Ok(Tables::of_one(alloc, named_key(alloc, word)?))
+}
+
+// Reads tables, however many they are.
+fn many_tables(alloc: Global, words: &[u8]) -> Result<Tables, NoStatement>
     ensures { ReadsAs (forms.some_tables (words_of words.now)) result }
 {
     let names = TableNames::read(words)?;

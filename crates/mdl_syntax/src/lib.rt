@@ -39,6 +39,7 @@ mod statement;
 mod table_locks;
 mod table_names;
 mod tables;
+mod verb;
 mod words;
 
 pub use laws::{line_numbers_rise, statements_are_within_limits};

@@ -5,11 +5,14 @@ ghost use Rattle.mdl_key.specs.Keys.{KeyName, key_eq, table_key};
 ghost use Rattle.mdl_lines.specs.Lines.{words_of};
 ghost use Rattle.mdl_syntax.specs.Names.{is_dot, name_of, table_in, table_of};
 ghost use Rattle.mdl_lines.specs.declared.fault.LineError.TheVariants.{BadName};
-ghost use Rattle.mdl_syntax.specs.Forms.{more_tables, listed, one_word, other_table, next_table};
+ghost use Rattle.mdl_syntax.specs.Forms.{more_tables, listed, one_word, or_refuse, other_table, next_table};
+ghost use Rattle.mdl_syntax.specs.Reading.{ReadsAs};
 
+use crate::no_statement::NoStatement;
 use crate::words::split_word;
-use mdl_key::check_name;
+use mdl_key::{Key, KeyError, check_name};
 use mdl_lines::LineError;
+use std::alloc::Global;
 use std::marker::Model;
 use std::str;
 
@@ -70,6 +73,33 @@ fn table_in<'a>(schema: &'a [u8], table: &'a [u8]) -> Option<TableName<'a>>
     let schema = name_of(schema)?;
     let table = name_of(table)?;
     Some(TableName { schema, table })
+}
+
+/// Returns the key of the table that a word names. Making the key checks the names.
+pub(crate) fn named_key(alloc: Global, word: &[u8]) -> Result<Key, NoStatement>
+    ensures { ReadsAs (or_refuse BadName (table_of word.now)) result }
+{
+    let Some(at) = first_dot(word) else {
+        return key_in(alloc, DEFAULT_SCHEMA, word);
+    };
+    match name_of(&word[..at]) {
+        Some(schema) => key_in(alloc, schema, &word[at + 1..]),
+        None => Err(NoStatement::Refused(LineError::BadName)),
+    }
+}
+
+// Returns the key of the table that a word names in a schema.
+fn key_in(alloc: Global, schema: &str, word: &[u8]) -> Result<Key, NoStatement>
+    ensures { ReadsAs (or_refuse BadName (table_in schema.now word.now)) result }
+{
+    let Ok(table) = str::from_utf8(word) else {
+        return Err(NoStatement::Refused(LineError::BadName));
+    };
+    match Key::table(alloc, schema, table) {
+        Ok(key) => Ok(key),
+        Err(KeyError::OutOfMemory) => Err(NoStatement::Memory),
+        Err(_) => Err(NoStatement::Refused(LineError::BadName)),
+    }
 }
 
 /// Returns the one table that words name, which must differ from the given one.

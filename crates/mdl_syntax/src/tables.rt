@@ -4,20 +4,26 @@ ghost use Rattle.std.specs.Prelude.{◌≡◌, [], ◌∷◌, ◌++◌, IfOk, On
 use mdl_key::Key;
 use std::alloc::{AllocError, Global};
 use std::marker::Model;
+use std::slice;
 
 /// The keys of tables, in the order in which a statement names them.
 #[derive(Drop)]
 pub struct Tables {
+    // The only table, which takes no memory but its key's. Then the list is empty.
+    only: Option<Key>,
     list: Vec<Key>,
 }
 
 impl Model for Tables {
-    ghost use Rattle.std.specs.Prelude.{List};
+    ghost use Rattle.std.specs.Prelude.{◌≡◌, List, [], None, IfSome};
     ghost use Rattle.mdl_key.specs.Keys.{KeyName};
+    ghost use Rattle.mdl_syntax.specs.Tables.{only_or_list};
 
     ghost Value = { List KeyName };
 
-    ghost view = { λ tables. tables.list.items };
+    ghost view = { λ tables. only_or_list tables.only tables.list.items };
+
+    ghost invariant = { λ tables. IfSome tables.only (λ _. tables.list.items ≡ []) };
 }
 
 impl Tables {
@@ -26,6 +32,17 @@ impl Tables {
         ensures { result ≡ [] }
     {
         Tables {
+            only: None,
+            list: Vec::new(alloc),
+        }
+    }
+
+    /// Returns a list of one table. Takes no memory.
+    pub(crate) fn of_one(alloc: Global, table: Key) -> Tables
+        ensures { result ≡ table ∷ [] }
+    {
+        Tables {
+            only: Some(table),
             list: Vec::new(alloc),
         }
     }
@@ -35,6 +52,7 @@ impl Tables {
         ensures { IfOk result (λ tables. tables ≡ []) }
     {
         Ok(Tables {
+            only: None,
             list: Vec::with_capacity(alloc, most)?,
         })
     }
@@ -44,6 +62,12 @@ impl Tables {
         ensures pushed { OnOk result (self.new ≡ self.old ++ table ∷ []) }
         ensures unchanged { OnErr result (self.new ≡ self.old) }
     {
+        if let Some(only) = self.only.take() {
+            if let Err(full) = self.list.push(only) {
+                self.only = Some(full.value);
+                return Err(AllocError);
+            }
+        }
         self.list.push(table)?;
         Ok(())
     }
@@ -52,7 +76,10 @@ impl Tables {
     pub fn as_slice(&self) -> &[Key]
         ensures { result.now ≡ self.now }
     {
-        &self.list
+        match &self.only {
+            Some(only) => slice::from_ref(only),
+            None => &self.list,
+        }
     }
 }
 
@@ -61,6 +88,7 @@ impl Clone for Tables {
 
     fn clone(&self) -> Result<Tables, AllocError> {
         Ok(Tables {
+            only: self.only.clone()?,
             list: self.list.clone()?,
         })
     }
