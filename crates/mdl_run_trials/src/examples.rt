@@ -1,5 +1,6 @@
 //! Examples of crates, which the heads of their `src/lib.rt` show, too.
 mod lock;
+mod plans;
 mod program;
 mod rows;
 mod script;

@@ -14,7 +14,7 @@
 //! lines through in order (`turns`), by `flags`. In `versions` all sessions read tables that one of them changes, in `blocked` a session outside the
 //! script keeps a table locked throughout, and in `again` the sessions of one script play a second one.
 //!
-//! In `used_up` statements run out of versions, places or tickets. `outcomes` are the results of statements. `examples` are those of ten crates.
+//! In `used_up` statements run out of versions, places or tickets. `outcomes` are the results of statements. `examples` are those of eleven crates.
 //! Other scripts, long ones, and random scripts are played by the program itself: `commands/check.py` and `fuzz/fuzz.py`.
 #![tactic(auto)]
 
