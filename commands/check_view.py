@@ -1,5 +1,5 @@
 """Gives mdlview words and scripts, and checks what it prints and its exit status: the answers of examples/view, what each form of its words
-gives, objects of JSON beside the tables, timelines, refused words and lines, rows of real servers and others, completions, and streams that fail.
+gives, objects of JSON beside the tables, timelines and pages, refused words and lines, rows of real servers and others, completions, and streams that fail.
 
 Usage, at the top of the repository: python3 commands/check_view.py [PROGRAM]    the program that was built last, or another one
 """
@@ -13,6 +13,7 @@ from xml.etree import ElementTree
 
 from devices import cases_of_mdlview, wrong_devices
 from view_json import wrong_json
+from view_pages import wrong_pages
 from view_rows import NO_ROWS_TOLD, wrong_rows
 from view_scripts import wrong_scripts
 
@@ -256,6 +257,11 @@ REFUSED = [
     ("why --at 3", "--script"),
     ("timeline", "--script"),
     ("timeline --at 3", "--script"),
+    ("timeline --html", "--script"),
+    ("timeline --script --html --html", "--html"),
+    ("timeline --script --html=x", "--html"),
+    *((words, words) for words in ("--h", "--ht", "--helpx")),
+    *((words, "'--html' goes with 'timeline'") for words in ("--html", "--script --html", "why --html --script", "locks --html", "graph --script --html", "query --html")),
     ("--script --at 0", "--at"),
     ("--script --at x", "--at"),
     ("--script --at -1", "-1"),
@@ -271,6 +277,7 @@ REFUSED = [
     ("--script timeline", "timeline"),
     ("graph --json", "--json"),
     ("timeline --script --json", "--json"),
+    ("timeline --script --html --json", "--json"),
     ("query --json", "--json"),
     ("query --script", "--server"),
     ("query --at 1", "--server"),
@@ -297,6 +304,7 @@ HELPED = [
     ("graph --help", "dot -Tsvg"),
     ("help graph", "dot -Tsvg"),
     ("query --help", "--server"),
+    ("timeline --help", "--html"),
 ]
 
 
@@ -476,6 +484,7 @@ def main(words):
         *wrong_servers(program),
         *wrong_examples(program),
         *wrong_pictures(program),
+        *wrong_pages(program, sorted([SIGNS, *EXAMPLES.glob("*.replay")])),
         *wrong_completions(program),
         *wrong_devices(program, cases_of_mdlview),
     ]

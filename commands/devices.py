@@ -112,7 +112,7 @@ MANY_TABLES = b"".join(b"1 CREATE TABLE t%d x\n" % table for table in range(200)
 
 # The words of mdlview that read rows, and those that read a script.
 ROW_WORDS = ["", "why --json", "locks", "locks --json", "waits", "waits --json", "graph"]
-SCRIPT_WORDS = ["--script", "locks --script", "waits --script --json", "graph --script --at 4", "timeline --script"]
+SCRIPT_WORDS = ["--script", "locks --script", "waits --script --json", "graph --script --at 4", "timeline --script", "timeline --script --html"]
 LONG_INPUTS = {"waits": MANY_ROWS, "waits --json": MANY_ROWS, "graph": MANY_ROWS, "locks --script": MANY_TABLES, "timeline --script": MANY_LINES}
 
 

@@ -107,9 +107,7 @@ def wrong_faults(program):
         for text in ("\t".join(names) + "\n", ",".join(names) + "\n", json.dumps([row]), json.dumps(row, indent=1)):
             ran = subprocess.run([program], input=text, capture_output=True, text=True)
             told = ran.stderr.removesuffix("\n")
-            # Lines of refusals fit a screen, except this one's, which isn't broken yet.
-            most = 140 if begin.endswith("METADATA_LOCK_INFO") else 100
-            is_told = told.startswith(begin) and told.endswith('mysql -B -e "$(mdlview query)"') and all(len(line) <= most for line in told.split("\n"))
+            is_told = told.startswith(begin) and told.endswith('mysql -B -e "$(mdlview query)"') and all(len(line) <= 105 for line in told.split("\n"))
             if ran.returncode != 1 or ran.stdout or not is_told:
                 yield f"{text!r}", ran
 

@@ -62,9 +62,9 @@ def reported(program, words, script):
 
 
 def wrong_refusals(program):
-    """Returns the scripts that are refused wrongly, also if the refused line comes after those that are played, or a picture is asked for."""
+    """Returns the scripts that are refused wrongly, also if the refused line comes after those that are played, or a picture or a page is asked for."""
     for script, told in REFUSED:
-        for words in (["--script"], ["--script", "--at", "1"], ["timeline", "--script"], ["timeline", "--script", "--at", "1"]):
+        for words in (["--script"], ["--script", "--at", "1"], ["timeline", "--script"], ["timeline", "--script", "--at", "1"], ["timeline", "--script", "--html"]):
             if (found := reported(program, words, script)) != (1, b"", told):
                 yield f"{' '.join(words)} < {script[:40]}", found
 

@@ -5,7 +5,8 @@ _mdlview() {
         words='why locks waits graph timeline query help --script --at --json --help --version'
     else
         case ${COMP_WORDS[1]} in
-            graph | timeline) words='--script --at --help' ;;
+            graph) words='--script --at --help' ;;
+            timeline) words='--script --at --html --help' ;;
             query) words='--server --help mysql mariadb' ;;
             help) words='why locks waits graph timeline query' ;;
             *) words='--script --at --json --help' ;;

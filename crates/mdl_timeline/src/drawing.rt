@@ -29,8 +29,9 @@ pub fn draw(alloc: Global, text: &[u8], last: u64) -> Result<Vec<u8>, Fault>
     }
 }
 
-// Plays these lines of a text, and draws what happens at them.
-fn draw_lines(alloc: Global, text: &[u8], lines: &[Line]) -> Result<Vec<u8>, AllocError>
+/// Plays these lines of a script with this text, and returns a picture of what happens at them, as SVG. Their sessions must be those that a script
+/// can name, as in lines that were parsed.
+pub fn draw_lines(alloc: Global, text: &[u8], lines: &[Line]) -> Result<Vec<u8>, AllocError>
     requires { All (λ line. IsScriptSession line.session) lines.now }
     ensures { IfOk result (λ out. out.items ≡ picture_text (moments_of text.now lines.now)) }
 {

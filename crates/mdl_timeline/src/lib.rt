@@ -1,6 +1,7 @@
 //! The timeline of a script: who waits for whom, and from which line to which.
 //!
-//! [`draw`] plays a script of statements, and draws what happens at its lines: see [`mdl_picture`] for what the picture shows.
+//! [`draw`] plays a script of statements, and draws what happens at its lines: see [`mdl_picture`] for what the picture shows. [`draw_lines`] does so
+//! with lines that were parsed.
 //!
 //! # Example
 //!
@@ -22,5 +23,5 @@ mod laws;
 mod moments;
 mod statements;
 
-pub use drawing::draw;
+pub use drawing::{draw, draw_lines};
 pub use laws::{arrows_are_waits, events_are_answers, held_locks_are_granted};

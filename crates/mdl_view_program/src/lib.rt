@@ -1,7 +1,7 @@
 //! What `mdlview` does once the words of its command line are read: it examines a table of locks, and writes the answer to a question.
 //!
 //! [`view_script`] plays a script and examines the locks that it leaves. [`view_rows`] examines those of a server's rows. [`answer`] answers a
-//! question about any locks. [`draw_script`] draws what happens at the lines of a script.
+//! question about any locks. [`draw_script`] draws what happens at the lines of a script, and [`draw_page`] writes a page around that picture.
 //!
 //! # Example
 //!
@@ -33,11 +33,13 @@
 #![tactic(auto)]
 
 mod answers;
+mod pages;
 mod program;
 mod question;
 mod rows;
 
 pub use answers::{answer, answer_of_books};
+pub use pages::draw_page;
 pub use program::{draw_script, view_script};
 pub use question::{Form, Question};
 pub use rows::{Explained, RowsFault, view_rows};

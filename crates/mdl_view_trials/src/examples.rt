@@ -1,6 +1,7 @@
 //! The examples that the libraries show.
 mod client_table;
 mod lock_rows;
+mod page;
 mod picture;
 mod timeline;
 mod view;

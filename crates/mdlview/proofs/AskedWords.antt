@@ -12,7 +12,7 @@ use Rattle.mdl_words.specs.Words.{CloseOptions}
 use Rattle.mdl_words.proofs.OptionWords.{AreUsed}
 use Rattle.mdl_words.proofs.Subcommands.{name_kept}
 use Rattle.mdlview.specs.CommandLine.{AskBy, GiveOption, GiveOptions, Given, HasOptions, HasServer, NameSubcommand, asked_by, begins_with_option, is_option, mdlview, no_options, server_name, subcommand_name}
-use Rattle.mdlview.specs.CommandLine.Given.{Script as script_given, Json as json_given, At as line_given, ServerOf}
+use Rattle.mdlview.specs.CommandLine.Given.{Script as script_given, Json as json_given, At as line_given, ServerOf, Html as html_given}
 use Rattle.mdlview.specs.declared.asked.Asked.{Asked}
 use Rattle.mdlview.specs.declared.asked.Options.{Options}
 use Rattle.mdlview.specs.declared.asked.Subcommand.{Subcommand}
@@ -41,10 +41,10 @@ asks_by named words m asked (uses, front, end, after, is, are, ends, finds_after
     let (raw, shows, fits, give) = options_given uses front after are in
     let all = rows ∙ ap (λ rows. fold with_default rows rules) finds_after in
     let (line, reads_line) = number_of raw.at fits in
-    let says : Options = record { is_script = raw.script; is_json = raw.json; last = line; server = options.server } in
+    let says : Options = record { is_script = raw.script; is_json = raw.json; last = line; server = options.server; is_html = raw.html } in
     let named_server = sym (server_found m after raw all shows) ∙ server in
-    let same = only says (finds m after raw says all shows (refl, refl, reads_line, named_server)) in
-    let (given, gives) = give says (refl, refl, reads_line, named_server) in
+    let same = only says (finds m after raw says all shows (refl, refl, reads_line, named_server, refl)) in
+    let (given, gives) = give says (refl, refl, reads_line, named_server, refl) in
     (given, says, front, end, is, gives, ends, ap (asked_by named) (sym same) ∙ by)
 
 -- words that ask for it are taken, and the options are found
@@ -62,6 +62,7 @@ taken_by named words asked (given, options, front, end, is, gives, ends, by) =
 begin_by : (one : Given) (first rest : List Text) → GiveOption one first → begins_with_option (first ++ rest) ≡ true
 begin_by script_given first rest is = ap (λ xs. begins_with_option (xs ++ rest)) is
 begin_by json_given first rest is = ap (λ xs. begins_with_option (xs ++ rest)) is
+begin_by html_given first rest is = ap (λ xs. begins_with_option (xs ++ rest)) is
 begin_by (line_given n) first rest (t, writes, inl is) = ap (λ xs. begins_with_option (xs ++ rest)) is
 begin_by (line_given n) first rest (t, writes, inr (is, minus)) = ap (λ xs. begins_with_option (xs ++ rest)) is
 begin_by (ServerOf s) first rest (inl is) = ap (λ xs. begins_with_option (xs ++ rest)) is

@@ -38,39 +38,50 @@ unchanged : (b : Bool) (rows : List Row) → (if b then rows else rows) ≡ rows
 unchanged true rows = refl
 unchanged false rows = refl
 
-finished_rows : (rows : List Row) → fold with_default rows rules ≡ defaulted (codes "json") (defaulted (codes "script") rows)
+finished_rows : (rows : List Row) → fold with_default rows rules ≡ defaulted (codes "html") (defaulted (codes "json") (defaulted (codes "script") rows))
 finished_rows rows =
     let first = defaulted (codes "script") rows in
     let second = defaulted (codes "json") first in
-    ap (λ (rs : List Row). let j = defaulted (codes "json") rs in let n = if has_row (codes "server") j then j else j in if has_row (codes "help") n then n else n)
+    let third = defaulted (codes "html") second in
+    ap (λ (rs : List Row). let j = defaulted (codes "json") rs in let n = if has_row (codes "server") j then j else j in
+    let h = defaulted (codes "html") n in if has_row (codes "help") h then h else h)
     (unchanged (has_row (codes "at") first) first)
-    ∙ ap (λ (rs : List Row). if has_row (codes "help") rs then rs else rs) (unchanged (has_row (codes "server") second) second)
-    ∙ unchanged (has_row (codes "help") second) second
+    ∙ ap (λ (rs : List Row). let h = defaulted (codes "html") rs in if has_row (codes "help") h then h else h) (unchanged (has_row (codes "server") second) second)
+    ∙ unchanged (has_row (codes "help") third) third
 
 -- what each option has at the end
+abbrev json_rows : List Row → List Row
+json_rows rows = defaulted (codes "json") (defaulted (codes "script") rows)
+
 abbrev last_rows : List Row → List Row
-last_rows rows = defaulted (codes "json") (defaulted (codes "script") rows)
+last_rows rows = defaulted (codes "html") (json_rows rows)
 
 module _ (rows : List Row) (raw : Raw) (shows : Shows rows raw) where
   script_last : Has (codes "script") (last_rows rows) (Some (flag_word raw.script))
   script_last =
-      other_defaulted (codes "json") (codes "script") (defaulted (codes "script") rows) (Some (flag_word raw.script)) refl
-      (flag_defaulted (codes "script") rows raw.script refl shows.0)
+      other_defaulted (codes "html") (codes "script") (json_rows rows) (Some (flag_word raw.script)) refl
+      (other_defaulted (codes "json") (codes "script") (defaulted (codes "script") rows) (Some (flag_word raw.script)) refl
+      (flag_defaulted (codes "script") rows raw.script refl shows.0))
 
   json_last : Has (codes "json") (last_rows rows) (Some (flag_word raw.json))
   json_last =
-      flag_defaulted (codes "json") (defaulted (codes "script") rows) raw.json refl
-      (other_defaulted (codes "script") (codes "json") rows (flag_text raw.json) refl shows.1)
+      other_defaulted (codes "html") (codes "json") (json_rows rows) (Some (flag_word raw.json)) refl
+      (flag_defaulted (codes "json") (defaulted (codes "script") rows) raw.json refl
+      (other_defaulted (codes "script") (codes "json") rows (flag_text raw.json) refl shows.1))
+
+  -- one that two defaults come before
+  kept : (id : Text) (o : Option Text) → bytes_eq (codes "script") id ≡ false → bytes_eq (codes "json") id ≡ false → Has id rows o → Has id (json_rows rows) o
+  kept id o script json has =
+      other_defaulted (codes "json") id (defaulted (codes "script") rows) o json (other_defaulted (codes "script") id rows o script has)
 
   line_last : Has (codes "at") (last_rows rows) raw.at
-  line_last =
-      other_defaulted (codes "json") (codes "at") (defaulted (codes "script") rows) raw.at refl
-      (other_defaulted (codes "script") (codes "at") rows raw.at refl shows.2)
+  line_last = other_defaulted (codes "html") (codes "at") (json_rows rows) raw.at refl (kept (codes "at") raw.at refl refl shows.2)
 
   server_last : Has (codes "server") (last_rows rows) raw.server
-  server_last =
-      other_defaulted (codes "json") (codes "server") (defaulted (codes "script") rows) raw.server refl
-      (other_defaulted (codes "script") (codes "server") rows raw.server refl shows.3)
+  server_last = other_defaulted (codes "html") (codes "server") (json_rows rows) raw.server refl (kept (codes "server") raw.server refl refl shows.3)
+
+  html_last : Has (codes "html") (last_rows rows) (Some (flag_word raw.html))
+  html_last = flag_defaulted (codes "html") (json_rows rows) raw.html refl (kept (codes "html") (flag_text raw.html) refl refl shows.4)
 
 -- what a getter reads of an option that has this at the end
 one_found : (m : ArgMatches) (rows : List Row) (id : Text) (o : Option Text) → rows_of (found_of m) ≡ fold with_default rows rules → Has id (last_rows rows) o
@@ -96,4 +107,5 @@ finds m rows raw options is shows reads = (
   one_found m rows (codes "json") (Some (flag_word raw.json)) is (json_last rows raw shows) ∙ ap (λ b. Some (flag_word b)) (sym reads.1),
   line_found (one_text (found_of m) (codes "at")) raw.at options.last (one_found m rows (codes "at") raw.at is (line_last rows raw shows)) reads.2,
   server_found m rows raw is shows ∙ reads.3,
+  one_found m rows (codes "html") (Some (flag_word raw.html)) is (html_last rows raw shows) ∙ ap (λ b. Some (flag_word b)) (sym reads.4),
 )

@@ -17,13 +17,13 @@ use Rattle.mdl_words.specs.Words.{GiveText}
 use Rattle.mdl_words.proofs.OptionWords.{AreUses, Spells, Use, fault_used, rows_used}
 use Rattle.mdl_words.proofs.ShortOptions.{refuses}
 use Rattle.mdlview.specs.CommandLine.{Adds, GiveOption, GiveOptions, Given, WritesLine, last_line, no_options, server_name}
-use Rattle.mdlview.specs.CommandLine.Given.{Script as script_given, Json as json_given, At as line_given, ServerOf}
+use Rattle.mdlview.specs.CommandLine.Given.{Script as script_given, Json as json_given, At as line_given, ServerOf, Html as html_given}
 use Rattle.mdlview.specs.declared.asked.Options.{Options}
 use Rattle.mdlview.specs.declared.asked.Server.{Server}
 use Rattle.mdlview.specs.declared.asked.Server.TheVariants.{MySql, MariaDb}
 use Rattle.mdlview.proofs.FoundRows.{Has, at_fresh, has_kept, has_new}
 use Rattle.mdlview.proofs.Options.{Flag, Valued, options}
-use Rattle.mdlview.proofs.Options.Flag.{Script, Json}
+use Rattle.mdlview.proofs.Options.Flag.{Script, Json, Html}
 use Rattle.mdlview.proofs.Options.Valued.{At, ServerName}
 
 -- ---- options by their texts
@@ -33,9 +33,10 @@ pub record Raw : Type 0 where
   pub json : Bool
   pub at : Option Text
   pub server : Option Text
+  pub html : Bool
 
 abbrev pub nothing_given : Raw
-nothing_given = record { script = false; json = false; at = None; server = None }
+nothing_given = record { script = false; json = false; at = None; server = None; html = false }
 
 -- what is found of a flag
 abbrev pub flag_text : Bool → Option Text
@@ -45,7 +46,7 @@ flag_text false = None
 -- the rows have what was given
 abbrev pub Shows : List Row → Raw → Type 0
 Shows rows raw = Has (codes "script") rows (flag_text raw.script) × Has (codes "json") rows (flag_text raw.json) × Has (codes "at") rows raw.at
-    × Has (codes "server") rows raw.server
+    × Has (codes "server") rows raw.server × Has (codes "html") rows (flag_text raw.html)
 
 -- the text of a line's number is one
 abbrev pub Fits : Option Text → Type 0
@@ -53,12 +54,13 @@ Fits None = Unit {0}
 Fits (Some t) = IsUnsignedIn 1 last_line t
 
 pub nothing_shown : Shows [] nothing_given
-nothing_shown = (refl, refl, refl, refl)
+nothing_shown = (refl, refl, refl, refl, refl)
 
 -- one more use, of what wasn't given before
 abbrev pub AddsUse : Use options → Raw → Raw → Type 0
 AddsUse (inl Script) old new = (old.script ≡ false) × (new ≡ record old { script = true })
 AddsUse (inl Json) old new = (old.json ≡ false) × (new ≡ record old { json = true })
+AddsUse (inl Html) old new = (old.html ≡ false) × (new ≡ record old { html = true })
 AddsUse (inr (At, t)) old new = (old.at ≡ None) × (new ≡ record old { at = Some t }) × IsUnsignedIn 1 last_line t
 AddsUse (inr (ServerName, t)) old new = (old.server ≡ None) × (new ≡ record old { server = Some t })
 
@@ -90,6 +92,7 @@ module _ (rows : List Row) (raw : Raw) (shows : Shows rows raw) where
         has_kept (codes "json") rows _ _ refl shows.1,
         has_kept (codes "at") rows _ _ refl shows.2,
         has_kept (codes "server") rows _ _ refl shows.3,
+        has_kept (codes "html") rows _ _ refl shows.4,
       )
 
   pub json_shown : raw.json ≡ false → Shows (rows_used options (inl Json) rows) (record raw { json = true })
@@ -100,6 +103,18 @@ module _ (rows : List Row) (raw : Raw) (shows : Shows rows raw) where
         has_new (codes "json") rows _ (codes "true") refl refl refl fresh,
         has_kept (codes "at") rows _ _ refl shows.2,
         has_kept (codes "server") rows _ _ refl shows.3,
+        has_kept (codes "html") rows _ _ refl shows.4,
+      )
+
+  pub html_shown : raw.html ≡ false → Shows (rows_used options (inl Html) rows) (record raw { html = true })
+  html_shown none =
+      let fresh : has_row (codes "html") rows ≡ false = subst (λ b. Has (codes "html") rows (flag_text b)) none shows.4 in
+      subst (λ rows. Shows rows (record raw { html = true })) (sym (used_fresh (codes "html") AsWritten (codes "true" ∷ []) rows fresh)) (
+        has_kept (codes "script") rows _ _ refl shows.0,
+        has_kept (codes "json") rows _ _ refl shows.1,
+        has_kept (codes "at") rows _ _ refl shows.2,
+        has_kept (codes "server") rows _ _ refl shows.3,
+        has_new (codes "html") rows _ (codes "true") refl refl refl fresh,
       )
 
   pub at_shown : (t : Text) → raw.at ≡ None → Shows (rows_used options (inr (At, t)) rows) (record raw { at = Some t })
@@ -110,6 +125,7 @@ module _ (rows : List Row) (raw : Raw) (shows : Shows rows raw) where
         has_kept (codes "json") rows _ _ refl shows.1,
         has_new (codes "at") rows _ t refl refl refl fresh,
         has_kept (codes "server") rows _ _ refl shows.3,
+        has_kept (codes "html") rows _ _ refl shows.4,
       )
 
   pub server_shown : (t : Text) → raw.server ≡ None → Shows (rows_used options (inr (ServerName, t)) rows) (record raw { server = Some t })
@@ -120,6 +136,7 @@ module _ (rows : List Row) (raw : Raw) (shows : Shows rows raw) where
         has_kept (codes "json") rows _ _ refl shows.1,
         has_kept (codes "at") rows _ _ refl shows.2,
         has_new (codes "server") rows _ t refl refl refl fresh,
+        has_kept (codes "html") rows _ _ refl shows.4,
       )
 
 -- ---- uses that are not refused
@@ -142,6 +159,9 @@ use_shown (inl Script) rows raw shows e =
 use_shown (inl Json) rows raw shows e =
     let none = no_flag raw.json (absent (codes "json") rows _ shows.1 (once (has_row (codes "json") rows) _ e).0) in
     (record raw { json = true }, (none, refl), json_shown rows raw shows none)
+use_shown (inl Html) rows raw shows e =
+    let none = no_flag raw.html (absent (codes "html") rows _ shows.4 (once (has_row (codes "html") rows) _ e).0) in
+    (record raw { html = true }, (none, refl), html_shown rows raw shows none)
 use_shown (inr (At, t)) rows raw shows e =
     let free = once (has_row (codes "at") rows) _ e in
     let none = absent (codes "at") rows _ shows.2 free.0 in
@@ -158,6 +178,7 @@ GiveUses (u ∷ more) words old new = (first rest : List Text) × (now : Raw) ×
 use_fits : (u : Use options) (old new : Raw) → AddsUse u old new → Fits old.at → Fits new.at
 use_fits (inl Script) old new (none, is) fits = subst (λ (r : Raw). Fits r.at) (sym is) fits
 use_fits (inl Json) old new (none, is) fits = subst (λ (r : Raw). Fits r.at) (sym is) fits
+use_fits (inl Html) old new (none, is) fits = subst (λ (r : Raw). Fits r.at) (sym is) fits
 use_fits (inr (At, t)) old new (none, is, now) fits = subst (λ (r : Raw). Fits r.at) (sym is) now
 use_fits (inr (ServerName, t)) old new (none, is) fits = subst (λ (r : Raw). Fits r.at) (sym is) fits
 
@@ -178,10 +199,10 @@ LineReads (Some t) line = (n : ℕ) × (line ≡ Some n) × WritesLine t n
 -- the options say what the texts say
 abbrev pub Reads : Raw → Options → Type 0
 Reads raw options = (options.is_script ≡ raw.script) × (options.is_json ≡ raw.json) × LineReads raw.at options.last
-    × (raw.server ≡ option_map server_name options.server)
+    × (raw.server ≡ option_map server_name options.server) × (options.is_html ≡ raw.html)
 
 pub nothing_read : Reads nothing_given no_options
-nothing_read = (refl, refl, refl, refl)
+nothing_read = (refl, refl, refl, refl, refl)
 
 -- a number begins with no `-`
 pub no_minus : (t : Text) → IsUnsignedIn 1 last_line t → starts_with_minus t ≡ false
@@ -210,22 +231,53 @@ Gave u words old after = (before : Options) × Reads old before × (one : Given)
 gave : (u : Use options) (words : List Text) (old now : Raw) (after : Options) → Spells options u words → AddsUse u old now → Reads now after → Gave u words old after
 gave (inl Script) words old now after spells (none, is) reads = (
   record after { is_script = false },
-  (sym none, reads.1 ∙ ap (λ (r : Raw). r.json) is, subst (λ (r : Raw). LineReads r.at after.last) is reads.2, sym (ap (λ (r : Raw). r.server) is) ∙ reads.3),
+  (
+    sym none,
+    reads.1 ∙ ap (λ (r : Raw). r.json) is,
+    subst (λ (r : Raw). LineReads r.at after.last) is reads.2,
+    sym (ap (λ (r : Raw). r.server) is) ∙ reads.3,
+    reads.4 ∙ ap (λ (r : Raw). r.html) is,
+  ),
   script_given,
   spells,
   (refl, ap (λ b. record after { is_script = b }) (reads.0 ∙ ap (λ (r : Raw). r.script) is)),
 )
 gave (inl Json) words old now after spells (none, is) reads = (
   record after { is_json = false },
-  (reads.0 ∙ ap (λ (r : Raw). r.script) is, sym none, subst (λ (r : Raw). LineReads r.at after.last) is reads.2, sym (ap (λ (r : Raw). r.server) is) ∙ reads.3),
+  (
+    reads.0 ∙ ap (λ (r : Raw). r.script) is,
+    sym none,
+    subst (λ (r : Raw). LineReads r.at after.last) is reads.2,
+    sym (ap (λ (r : Raw). r.server) is) ∙ reads.3,
+    reads.4 ∙ ap (λ (r : Raw). r.html) is,
+  ),
   json_given,
   spells,
   (refl, ap (λ b. record after { is_json = b }) (reads.1 ∙ ap (λ (r : Raw). r.json) is)),
 )
+gave (inl Html) words old now after spells (none, is) reads = (
+  record after { is_html = false },
+  (
+    reads.0 ∙ ap (λ (r : Raw). r.script) is,
+    reads.1 ∙ ap (λ (r : Raw). r.json) is,
+    subst (λ (r : Raw). LineReads r.at after.last) is reads.2,
+    sym (ap (λ (r : Raw). r.server) is) ∙ reads.3,
+    sym none,
+  ),
+  html_given,
+  spells,
+  (refl, ap (λ b. record after { is_html = b }) (reads.4 ∙ ap (λ (r : Raw). r.html) is)),
+)
 gave (inr (At, t)) words old now after spells (none, is, fits) reads =
     let (n, line, writes) = subst (λ (r : Raw). LineReads r.at after.last) is reads.2 in (
       record after { last = None },
-      (reads.0 ∙ ap (λ (r : Raw). r.script) is, reads.1 ∙ ap (λ (r : Raw). r.json) is, subst (λ o. LineReads o None) (sym none) refl, sym (ap (λ (r : Raw). r.server) is) ∙ reads.3),
+      (
+        reads.0 ∙ ap (λ (r : Raw). r.script) is,
+        reads.1 ∙ ap (λ (r : Raw). r.json) is,
+        subst (λ o. LineReads o None) (sym none) refl,
+        sym (ap (λ (r : Raw). r.server) is) ∙ reads.3,
+        reads.4 ∙ ap (λ (r : Raw). r.html) is,
+      ),
       line_given n,
       (t, writes, given_text spells),
       (refl, ap (λ o. record after { last = o }) line),
@@ -251,7 +303,13 @@ gave (inr (ServerName, t)) words old now after spells (none, is) reads = go afte
     go (Some s) e =
         let same = named s (sym (ap (λ (r : Raw). r.server) is) ∙ reads.3 ∙ ap (option_map server_name) e) in (
           record after { server = None },
-          (reads.0 ∙ ap (λ (r : Raw). r.script) is, reads.1 ∙ ap (λ (r : Raw). r.json) is, subst (λ (r : Raw). LineReads r.at after.last) is reads.2, none),
+          (
+            reads.0 ∙ ap (λ (r : Raw). r.script) is,
+            reads.1 ∙ ap (λ (r : Raw). r.json) is,
+            subst (λ (r : Raw). LineReads r.at after.last) is reads.2,
+            none,
+            reads.4 ∙ ap (λ (r : Raw). r.html) is,
+          ),
           ServerOf s,
           given_text s same spells,
           (refl, ap (λ o. record after { server = o }) e),
@@ -266,9 +324,10 @@ all_gave (u ∷ more) words old new after (first, rest, now, is, spells, adds, g
     (before, reads_old, one ∷ all, (first, rest, middle, is, gives_one, adds_one, given_all))
 
 starts_bare : (before : Options) → Reads nothing_given before → before ≡ no_options
-starts_bare before (script, json, line, server) =
+starts_bare before (script, json, line, server, html) =
     ap₂ (λ s j. record before { is_script = s; is_json = j }) script json
-    ∙ ap₂ (λ l v. record no_options { last = l; server = v }) line (no_server before.server server)
+    ∙ ap₂ (λ l v. record before { is_script = false; is_json = false; last = l; server = v }) line (no_server before.server server)
+    ∙ ap (λ h. record no_options { is_html = h }) html
 
 -- the words of uses give the options that say what is found
 pub options_given : (uses : List (Use options)) (words : List Text) (rows : List Row) → AreUses options uses words [] rows

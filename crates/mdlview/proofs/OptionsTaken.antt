@@ -9,13 +9,13 @@ use Rattle.mdl_words.proofs.Levels.{IsEnd, start}
 use Rattle.mdl_words.proofs.OptionWords.{level, rows_used}
 use Rattle.mdl_words.proofs.OptionsTaken.{Stands, flag_behind, nothing_stands, text_behind, words_taken}
 use Rattle.mdlview.specs.CommandLine.{Adds, GiveOption, GiveOptions, Given, last_line, no_options, server_name}
-use Rattle.mdlview.specs.CommandLine.Given.{Script as script_given, Json as json_given, At as line_given, ServerOf}
+use Rattle.mdlview.specs.CommandLine.Given.{Script as script_given, Json as json_given, At as line_given, ServerOf, Html as html_given}
 use Rattle.mdlview.specs.declared.asked.Options.{Options}
 use Rattle.mdlview.proofs.FoundRows.{Has}
 use Rattle.mdlview.proofs.Options.{options}
-use Rattle.mdlview.proofs.Options.Flag.{Script, Json}
+use Rattle.mdlview.proofs.Options.Flag.{Script, Json, Html}
 use Rattle.mdlview.proofs.Options.Valued.{At, ServerName}
-use Rattle.mdlview.proofs.OptionsGiven.{LineReads, Raw, Reads, Shows, at_shown, flag_text, json_shown, nothing_given, nothing_read, nothing_shown, script_shown, server_shown}
+use Rattle.mdlview.proofs.OptionsGiven.{LineReads, Raw, Reads, Shows, at_shown, flag_text, html_shown, json_shown, nothing_given, nothing_read, nothing_shown, script_shown, server_shown}
 
 -- ---- an option, and all
 
@@ -34,21 +34,28 @@ one_more name script_given front words rows old new is (none, same) (raw, shows,
     let absent = sym reads.0 ∙ none in
     let fresh : has_row (codes "script") rows ≡ false = subst (λ b. Has (codes "script") rows (flag_text b)) absent shows.0 in (
       rows_used options (inl Script) rows,
-      (record raw { script = true }, script_shown rows raw shows absent, subst (Reads (record raw { script = true })) (sym same) (refl, reads.1, reads.2, reads.3)),
+      (record raw { script = true }, script_shown rows raw shows absent, subst (Reads (record raw { script = true })) (sym same) (refl, reads.1, reads.2, reads.3, reads.4)),
       flag_behind options name Script front words rows is fresh stands,
     )
 one_more name json_given front words rows old new is (none, same) (raw, shows, reads) stands =
     let absent = sym reads.1 ∙ none in
     let fresh : has_row (codes "json") rows ≡ false = subst (λ b. Has (codes "json") rows (flag_text b)) absent shows.1 in (
       rows_used options (inl Json) rows,
-      (record raw { json = true }, json_shown rows raw shows absent, subst (Reads (record raw { json = true })) (sym same) (reads.0, refl, reads.2, reads.3)),
+      (record raw { json = true }, json_shown rows raw shows absent, subst (Reads (record raw { json = true })) (sym same) (reads.0, refl, reads.2, reads.3, reads.4)),
       flag_behind options name Json front words rows is fresh stands,
+    )
+one_more name html_given front words rows old new is (none, same) (raw, shows, reads) stands =
+    let absent = sym reads.4 ∙ none in
+    let fresh : has_row (codes "html") rows ≡ false = subst (λ b. Has (codes "html") rows (flag_text b)) absent shows.4 in (
+      rows_used options (inl Html) rows,
+      (record raw { html = true }, html_shown rows raw shows absent, subst (Reads (record raw { html = true })) (sym same) (reads.0, reads.1, reads.2, reads.3, refl)),
+      flag_behind options name Html front words rows is fresh stands,
     )
 one_more name (line_given n) front words rows old new (t, writes, gives) (none, same) (raw, shows, reads) stands =
     let absent = no_line raw.at (subst (LineReads raw.at) none reads.2) in
     let fresh : has_row (codes "at") rows ≡ false = subst (Has (codes "at") rows) absent shows.2 in (
       rows_used options (inr (At, t)) rows,
-      (record raw { at = Some t }, at_shown rows raw shows t absent, subst (Reads (record raw { at = Some t })) (sym same) (reads.0, reads.1, (n, refl, writes), reads.3)),
+      (record raw { at = Some t }, at_shown rows raw shows t absent, subst (Reads (record raw { at = Some t })) (sym same) (reads.0, reads.1, (n, refl, writes), reads.3, reads.4)),
       text_behind options name At t front words rows (Accepts-accepts false (Unsigned 1 last_line) t writes.0) fresh gives stands,
     )
 one_more name (ServerOf s) front words rows old new gives (none, same) (raw, shows, reads) stands =
@@ -58,7 +65,7 @@ one_more name (ServerOf s) front words rows old new gives (none, same) (raw, sho
       (
         record raw { server = Some (server_name s) },
         server_shown rows raw shows (server_name s) absent,
-        subst (Reads (record raw { server = Some (server_name s) })) (sym same) (reads.0, reads.1, reads.2, refl),
+        subst (Reads (record raw { server = Some (server_name s) })) (sym same) (reads.0, reads.1, reads.2, refl, reads.4),
       ),
       text_behind options name ServerName (server_name s) front words rows refl fresh gives stands,
     )

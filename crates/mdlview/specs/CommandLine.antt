@@ -14,6 +14,7 @@ use Rattle.mdl_view_program.specs.declared.question.Question.TheVariants as ques
 use Rattle.mdl_words.specs.Words.{CloseOptions, GiveText, flag_rule, value_rule}
 use Rattle.mdlview.specs.declared.asked.Asked.{Asked}
 use Rattle.mdlview.specs.declared.asked.Asked.TheVariants.{OfRows, OfScript, Query}
+use Rattle.mdlview.specs.declared.asked.Look.{Look}
 use Rattle.mdlview.specs.declared.asked.Look.TheVariants as look
 use Rattle.mdlview.specs.declared.asked.Options.{Options}
 use Rattle.mdlview.specs.declared.asked.Server.{Server}
@@ -48,14 +49,20 @@ abbrev pub form_of : Bool → Form
 form_of true = form.Json
 form_of false = form.Text
 
--- a question about the locks that a script leaves, or, without `--script`, about those of rows. Rows show one moment, so they have no line
+-- a question about the locks that a script leaves, or, without `--script`, about those of rows. Rows show one moment, so they have no line. A page
+-- is of a timeline alone
 abbrev pub question_asked : Question → Options → Option Asked
 question_asked question options =
-    if is_some options.server then None
+    if is_some options.server then None else (if options.is_html then None
     else (if options.is_script then Some (OfScript (look.Locks question) (unwrap_or options.last last_line))
-    else (if is_some options.last then None else Some (OfRows question)))
+    else (if is_some options.last then None else Some (OfRows question))))
 
--- what a subcommand asks for with these options, if it takes them. A graph and a picture have one form, and rows have no picture
+-- the form of a timeline
+abbrev pub timeline_form : Bool → Look
+timeline_form true = look.Page
+timeline_form false = look.Timeline
+
+-- what a subcommand asks for with these options, if it takes them. A graph has one form, a timeline isn't JSON, and rows have no timeline
 abbrev pub asked_by : Subcommand → Options → Option Asked
 asked_by subcommand.Why options = question_asked (question.Why (form_of options.is_json)) options
 asked_by subcommand.Locks options = question_asked (question.Locks (form_of options.is_json)) options
@@ -63,10 +70,10 @@ asked_by subcommand.Waits options = question_asked (question.Waits (form_of opti
 asked_by subcommand.Graph options = if options.is_json then None else question_asked question.Graph options
 asked_by subcommand.Timeline options =
     if options.is_json then None else (if is_some options.server then None
-    else (if options.is_script then Some (OfScript look.Timeline (unwrap_or options.last last_line)) else None))
+    else (if options.is_script then Some (OfScript (timeline_form options.is_html) (unwrap_or options.last last_line)) else None))
 asked_by subcommand.Query options =
     if options.is_json then None else (if options.is_script then None
-    else (if is_some options.last then None else Some (Query (unwrap_or options.server MySql))))
+    else (if is_some options.last then None else (if options.is_html then None else Some (Query (unwrap_or options.server MySql)))))
 
 -- ---- the words of options
 
@@ -76,17 +83,19 @@ pub data Given : Type 0 where
   Json : Given
   At : ℕ → Given
   ServerOf : Server → Given
+  Html : Given
 
 -- the text writes the number of a line, from 1 to the last, in decimal digits, perhaps after a `+`
 abbrev pub WritesLine : List ℕ → ℕ → Type 0
 WritesLine text line = IsUnsignedIn 1 last_line text × (digits_value 10 (without_leading_plus text) ≡ line)
 
--- the word begins as an option does, and not as `--help`, which asks for the program's help
+-- the word begins as an option does, and not with `--he`, as `--help` does, which asks for the program's help
 abbrev pub is_option : List ℕ → Bool
 is_option [] = false
 is_option (first ∷ []) = false
 is_option (first ∷ next ∷ []) = (first == 45) && (next == 45)
-is_option (first ∷ next ∷ third ∷ rest) = (first == 45) && ((next == 45) && not (third == 104))
+is_option (first ∷ next ∷ third ∷ []) = (first == 45) && (next == 45)
+is_option (first ∷ next ∷ third ∷ fourth ∷ rest) = (first == 45) && ((next == 45) && not ((third == 104) && (fourth == 101)))
 
 -- the words have no subcommand
 abbrev pub begins_with_option : List (List ℕ) → Bool
@@ -99,10 +108,11 @@ GiveOption Script words = words ≡ codes "--script" ∷ []
 GiveOption Json words = words ≡ codes "--json" ∷ []
 GiveOption (At line) words = (text : List ℕ) × WritesLine text line × GiveText (codes "at") text words
 GiveOption (ServerOf server) words = GiveText (codes "server") (server_name server) words
+GiveOption Html words = words ≡ codes "--html" ∷ []
 
 -- no option
 abbrev pub no_options : Options
-no_options = record { is_script = false; is_json = false; last = None; server = None }
+no_options = record { is_script = false; is_json = false; last = None; server = None; is_html = false }
 
 -- options with one more, which wasn't given before
 abbrev pub Adds : Given → Options → Options → Type 0
@@ -110,6 +120,7 @@ Adds Script old new = (old.is_script ≡ false) × (new ≡ record old { is_scri
 Adds Json old new = (old.is_json ≡ false) × (new ≡ record old { is_json = true })
 Adds (At line) old new = (old.last ≡ None) × (new ≡ record old { last = Some line })
 Adds (ServerOf server) old new = (old.server ≡ None) × (new ≡ record old { server = Some server })
+Adds Html old new = (old.is_html ≡ false) × (new ≡ record old { is_html = true })
 
 -- the words give these options in turn, behind old ones
 abbrev pub GiveOptions : List Given → List (List ℕ) → Options → Options → Type 0
@@ -154,9 +165,12 @@ json_rule = flag_rule (codes "json")
 abbrev pub server_rule : Rule
 server_rule = value_rule (codes "server") None []
 
+abbrev pub html_rule : Rule
+html_rule = flag_rule (codes "html")
+
 -- a command with all options
 abbrev pub with_options : App → App
-with_options app = with_rule (with_rule (with_rule (with_rule app script_rule) at_rule) json_rule) server_rule
+with_options app = with_rule (with_rule (with_rule (with_rule (with_rule app script_rule) at_rule) json_rule) server_rule) html_rule
 
 -- the program without a subcommand, whose options are those of `why`
 abbrev pub why_alone : App
@@ -197,3 +211,4 @@ HasOptions matches options = (one_text (found_of matches) (codes "script") ≡ S
     × (one_text (found_of matches) (codes "json") ≡ Some (flag_word options.is_json))
     × HasLine (one_text (found_of matches) (codes "at")) options.last
     × HasServer matches options
+    × (one_text (found_of matches) (codes "html") ≡ Some (flag_word options.is_html))

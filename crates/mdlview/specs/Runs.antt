@@ -7,6 +7,7 @@ use Rattle.mdl_lines.specs.Words.{AppendsPart, fault_status}
 use Rattle.mdl_lock_rows.specs.declared.row_error.LockRowsError.{LockRowsError}
 use Rattle.mdl_lock_rows.specs.declared.row_error.LockRowsError.TheVariants.{OutOfMemory}
 use Rattle.mdl_syntax.specs.Scripts.{parsed}
+use Rattle.mdl_view_program.specs.Pages.{PagesScript}
 use Rattle.mdl_view_program.specs.Programs.{AnswersScript, DrawsScript}
 use Rattle.mdl_view_program.specs.RowAnswers.{AnswersBytes, IsRowsFault}
 use Rattle.mdl_view_program.specs.declared.question.Question.{Question}
@@ -19,12 +20,13 @@ use Rattle.mdlview.specs.Queries.{query_text}
 use Rattle.mdlview.specs.declared.asked.Asked.{Asked}
 use Rattle.mdlview.specs.declared.asked.Asked.TheVariants.{OfRows, OfScript, Query}
 use Rattle.mdlview.specs.declared.asked.Look.{Look}
-use Rattle.mdlview.specs.declared.asked.Look.TheVariants.{Locks, Timeline}
+use Rattle.mdlview.specs.declared.asked.Look.TheVariants.{Locks, Page, Timeline}
 
 -- the text is an answer to a request about a script, played to the end of the line of this number
 abbrev pub AnswersLook : Look → ℕ → List ℕ → List ℕ → Type 0
 AnswersLook (Locks question) last bytes text = AnswersScript question last (parsed bytes) text
 AnswersLook Timeline last bytes text = DrawsScript last bytes (parsed bytes) text
+AnswersLook Page last bytes text = PagesScript last bytes (parsed bytes) text
 
 -- the bytes are refused as rows, and not for want of memory
 abbrev pub RefusesRows : List ℕ → Type 0

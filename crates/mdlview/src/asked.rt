@@ -1,6 +1,6 @@
 //! What a subcommand asks for with its options.
 ghost use Rattle.std.specs.Prelude.{◌≡◌, Some, None, IfOk, OnErr, unwrap_or};
-ghost use Rattle.mdlview.specs.CommandLine.{asked_by, form_of, last_line, question_asked};
+ghost use Rattle.mdlview.specs.CommandLine.{asked_by, form_of, last_line, question_asked, timeline_form};
 
 use mdl_view_program::{Form, Question};
 
@@ -15,7 +15,7 @@ pub enum Subcommand {
     Waits,
     /// The waits, as a graph.
     Graph,
-    /// A picture of a script.
+    /// A picture of a script, or a page.
     Timeline,
     /// The query for a server's rows.
     Query,
@@ -32,6 +32,8 @@ pub struct Options {
     pub last: Option<u64>,
     /// The kind of server whose query is asked for.
     pub server: Option<Server>,
+    /// The timeline is a page.
+    pub is_html: bool,
 }
 
 /// A kind of server.
@@ -61,6 +63,8 @@ pub enum Look {
     Locks(Question),
     /// A picture of it.
     Timeline,
+    /// A page with that picture.
+    Page,
 }
 
 /// Why options are refused.
@@ -74,6 +78,8 @@ pub enum Misuse {
     NoJson,
     /// `--server` for another subcommand than `query`.
     NoServer,
+    /// `--html` for another subcommand than `timeline`.
+    NoHtml,
     /// `--server` with another name.
     UnknownServer,
     /// `--script` or `--at` for `query`.
@@ -92,6 +98,7 @@ impl Misuse {
             }
             Misuse::NoJson => "'--json' goes with 'why', 'locks' and 'waits' only",
             Misuse::NoServer => "'--server' goes with 'query' only",
+            Misuse::NoHtml => "'--html' goes with 'timeline' only",
             Misuse::UnknownServer => "'--server' takes 'mysql' or 'mariadb'",
             Misuse::QueryOfScript => "'query' reads no script: it takes '--server' only",
         }
@@ -134,6 +141,7 @@ fn locks_asked(question: Question, options: Options) -> Result<Asked, Misuse>
             server: Some(_),
             ..
         } => Err(Misuse::NoServer),
+        Options { is_html: true, .. } => Err(Misuse::NoHtml),
         Options {
             is_script: true,
             last,
@@ -155,7 +163,7 @@ fn graph_asked(options: Options) -> Result<Asked, Misuse>
     locks_asked(Question::Graph, options)
 }
 
-// A picture of a script.
+// A picture of a script, or a page.
 fn timeline_asked(options: Options) -> Result<Asked, Misuse>
     ensures asked { IfOk result (λ asked. asked_by Subcommand.Timeline options ≡ Some asked) }
     ensures refused { OnErr result (asked_by Subcommand.Timeline options ≡ None) }
@@ -169,10 +177,18 @@ fn timeline_asked(options: Options) -> Result<Asked, Misuse>
         Options {
             is_script: true,
             last,
+            is_html,
             ..
-        } => Ok(Asked::OfScript(Look::Timeline, last_of(last))),
+        } => Ok(Asked::OfScript(timeline_form(is_html), last_of(last))),
         _ => Err(Misuse::TimelineOfRows),
     }
+}
+
+// The form of a timeline.
+fn timeline_form(is_html: bool) -> Look
+    ensures { result ≡ timeline_form is_html }
+{
+    if is_html { Look::Page } else { Look::Timeline }
 }
 
 // The query for the rows of a server.
@@ -187,6 +203,7 @@ fn query_asked(options: Options) -> Result<Asked, Misuse>
             ..
         } => Err(Misuse::QueryOfScript),
         Options { last: Some(_), .. } => Err(Misuse::QueryOfScript),
+        Options { is_html: true, .. } => Err(Misuse::NoHtml),
         Options {
             server: Some(server),
             ..

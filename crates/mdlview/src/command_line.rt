@@ -6,7 +6,7 @@ ghost use Rattle.mdlview.specs.declared.asked.Options.{Options};
 ghost use Rattle.mdlview.specs.declared.asked.Server.{Server};
 ghost use Rattle.mdlview.specs.declared.asked.Subcommand.{Subcommand};
 ghost use Rattle.mdlview.specs.CommandLine as spec;
-ghost use Rattle.mdlview.specs.CommandLine.{AskBy, Asks, HasOptions, HasServer, asked_by, at_rule, is_option, begins_with_option, json_rule, mdlview, script_rule, server_name, server_rule, subcommand_name, why_alone};
+ghost use Rattle.mdlview.specs.CommandLine.{AskBy, Asks, HasOptions, HasServer, asked_by, at_rule, is_option, begins_with_option, html_rule, json_rule, mdlview, script_rule, server_name, server_rule, subcommand_name, why_alone};
 
 use crate::asked::{Asked, Misuse, Options, Server, Subcommand, asked_by};
 use crate::help::{PROGRAM_HELP, about_text, at_help, examples_of, script_help};
@@ -44,7 +44,7 @@ fn is_option(word: &str) -> bool
     ensures { result ≡ is_option word.now }
 {
     match word.as_bytes() {
-        [b'-', b'-', b'h', ..] => false,
+        [b'-', b'-', b'h', b'e', ..] => false,
         [b'-', b'-', ..] => true,
         _ => false,
     }
@@ -122,6 +122,7 @@ fn options_found(matches: &ArgMatches) -> Result<Options, Misuse>
         is_json: matches.get_flag("json"),
         last: matches.get_one::<u64>("at"),
         server: server_found(matches)?,
+        is_html: matches.get_flag("html"),
     })
 }
 
@@ -183,7 +184,8 @@ fn with_options<'a>(
         .arg(script_option(alloc, subcommand))?
         .arg(at_option(alloc, subcommand))?
         .arg(json_option(alloc, subcommand))?
-        .arg(server_option(alloc, subcommand))
+        .arg(server_option(alloc, subcommand))?
+        .arg(html_option(alloc, subcommand))
 }
 
 // The option `--script`.
@@ -238,4 +240,16 @@ fn server_option<'a>(alloc: Global, subcommand: Subcommand) -> Arg<'a>
         .action(ArgAction::Set)
         .hide(subcommand != Subcommand::Query)
         .help("The kind of server, mysql or mariadb; if none is named, mysql")
+}
+
+// The option `--html`.
+fn html_option<'a>(alloc: Global, subcommand: Subcommand) -> Arg<'a>
+    ensures rule { rule_of result ≡ html_rule }
+    ensures local { result.global ≡ false }
+{
+    Arg::new(alloc, "html")
+        .long("html")
+        .action(ArgAction::SetTrue)
+        .hide(subcommand != Subcommand::Timeline)
+        .help("Prints a page of HTML, which shows the locks and the waits after each line")
 }

@@ -32,8 +32,9 @@ const GRAPH_EXAMPLES: &str = "Examples:
 
 Rows don't show in which order sessions began to wait: waits are taken in the order of the rows.";
 
-const TIMELINE_EXAMPLES: &str = "Example:
+const TIMELINE_EXAMPLES: &str = "Examples:
   mdlview timeline --script < examples/alter_stops_a_table.replay > timeline.svg
+  mdlview timeline --script --html < examples/alter_stops_a_table.replay > timeline.html
 
 Lines go from left to right, and each session has a row. A server's rows show one moment only, so there is no timeline of them.";
 
@@ -52,7 +53,7 @@ pub fn about_text(subcommand: Subcommand) -> &'static str {
             "Prints a row for each request that waits, and each session in its way",
         Subcommand::Graph => "Prints the waits as a graph, in the DOT language of Graphviz",
         Subcommand::Timeline => {
-            "Prints a picture of a script, as SVG: who waits for whom, and from which line to which"
+            "Prints a picture of a script, as SVG or in a page: who waits for whom, and from which line to which"
         }
         Subcommand::Query =>
             "Prints the query for the rows of a server, which the other commands read",

@@ -1,7 +1,7 @@
 //! `mdlview` says who blocks whom. `mdlview why` reads the rows of a server's metadata locks from standard input, and prints the deadlocks, and
 //! what would follow if each of the sessions that block others and wait for none ended. `mdlview locks`, `mdlview waits` and `mdlview graph`
 //! print the locks, the waits, and a graph of the waits. With `--script` it plays a script of statements, and examines the locks that it
-//! leaves. With `--json` it prints an object of JSON. `mdlview --version` prints its version.
+//! leaves; `mdlview timeline` prints a picture of it, or a page. With `--json` it prints an object of JSON. `mdlview --version` prints its version.
 #![tactic(auto)]
 
 mod asked;

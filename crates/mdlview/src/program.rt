@@ -18,7 +18,9 @@ use clap::Error;
 use clap::error::ErrorKind;
 use mdl_lines::{Fault, LineError, read_all, report, write_all};
 use mdl_lock_rows::LockRowsError;
-use mdl_view_program::{Explained, Question, RowsFault, draw_script, view_rows, view_script};
+use mdl_view_program::{
+    Explained, Question, RowsFault, draw_page, draw_script, view_rows, view_script,
+};
 use mdl_view_text::explanation;
 use mdl_words::is_only_word;
 use std::alloc::{AllocError, Global};
@@ -234,6 +236,7 @@ fn answer_script<W: Write>(
     match look {
         Look::Locks(question) => view_script(alloc, question, last, &mut script, output),
         Look::Timeline => draw_script(alloc, last, &mut script, output),
+        Look::Page => draw_page(alloc, last, &mut script, output),
     }
 }
 
