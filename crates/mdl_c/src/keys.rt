@@ -3,8 +3,9 @@ ghost use Rattle.std.specs.Prelude.{◌≡◌};
 ghost use Rattle.std.specs.Str.{IsUtf8};
 ghost use Rattle.mdl_key.specs.Keys.{commit_key, global_key, schema_key, table_key, user_lock_key, utf8_name_fault, utf8_table_fault};
 ghost use Rattle.mdl_calls.specs.Words.{Resolve, Unpin};
-ghost use Rattle.mdl_c_calls.specs.Exports.{Nothing, Number, ServesCall, ServesDirect, Tells};
-ghost use Rattle.mdl_c_calls.specs.Names.{MakesKey};
+ghost use Rattle.mdl_c_parts.specs.Answers.{Nothing, Number};
+ghost use Rattle.mdl_c_parts.specs.Names.{MakesKey};
+ghost use Rattle.mdl_c_calls.specs.Exports.{ServesCall, ServesDirect, Tells};
 
 use mdl_c_calls::OneSpace;
 use std::alloc::Global;

@@ -2,10 +2,13 @@
 ghost use Rattle.std.specs.Prelude.{◌≡◌, length};
 ghost use Rattle.mdl_key.specs.Keys.{namespace_rank};
 ghost use Rattle.mdl_calls.specs.Words.{List_held};
+ghost use Rattle.mdl_c_parts.specs.Answers.{HeldTold};
+ghost use Rattle.mdl_c_parts.specs.Rows.{IsKept, IsListWritten};
 ghost use Rattle.mdl_c_calls.specs.Exports.{ServesCall};
-ghost use Rattle.mdl_c_calls.specs.Listings.{HeldTold, IsKept, IsListWritten, IsNoted, ShowsLock, ShowsSpace, lock_rows, newly_settled, settled_sessions};
+ghost use Rattle.mdl_c_calls.specs.Listings.{IsNoted, ShowsLock, ShowsSpace, lock_rows, newly_settled, settled_sessions};
 
-use mdl_c_calls::{HeldRow, LockRow, OneSpace};
+use mdl_c_calls::OneSpace;
+use mdl_c_parts::{HeldRow, LockRow};
 use std::alloc::Global;
 
 /// Writes the sessions whose waits are settled and not ended, in rising order.

@@ -1,6 +1,6 @@
 //! The calls that make a manager and free it, and the one that tells the library's version.
 ghost use Rattle.std.specs.Prelude.{◌≡◌};
-ghost use Rattle.mdl_c_calls.specs.Codes.{library_version};
+ghost use Rattle.mdl_c_parts.specs.Codes.{library_version};
 ghost use Rattle.mdl_c_calls.specs.Exports.{Closes, OpensVersion};
 
 use mdl_c_calls::OneSpace;

@@ -1,7 +1,8 @@
 //! The calls that request a lock without waiting, and those that change held tickets.
 ghost use Rattle.mdl_calls.specs.Words.{Clone_ticket, Downgrade, Merge, Release, Try_now, Upgrade_now};
-ghost use Rattle.mdl_c_calls.specs.Codes.{mode_at, no_mode};
-ghost use Rattle.mdl_c_calls.specs.Exports.{Nothing, Number, ServesDirect, ServesDirectWish};
+ghost use Rattle.mdl_c_parts.specs.Answers.{Nothing, Number};
+ghost use Rattle.mdl_c_parts.specs.Codes.{mode_at, no_mode};
+ghost use Rattle.mdl_c_calls.specs.Exports.{ServesDirect, ServesDirectWish};
 
 use mdl_c_calls::OneSpace;
 use std::alloc::Global;

@@ -4,12 +4,12 @@ ghost use Rattle.mdl_context.specs.Releases.{ending_explicit, ending_statement, 
 ghost use Rattle.mdl_context.specs.Requests.{acquiring, trying};
 ghost use Rattle.mdl_context.specs.Upgrades.{downgrading, upgrading};
 ghost use Rattle.mdl_context.specs.Waits.{giving_up_wait, resuming};
-ghost use Rattle.mdl_c_calls.specs.Codes.{mode_at, no_mode};
-ghost use Rattle.mdl_c_calls.specs.ContextCodes.{acquire_code, acquire_told, done_code, duration_at, kept_code, mark_in_context, mark_told, namespace_at, no_duration, resume_code, resume_told, tried_code, tried_told};
+ghost use Rattle.mdl_c_parts.specs.Codes.{duration_at, mode_at, namespace_at, no_duration, no_mode};
+ghost use Rattle.mdl_c_parts.specs.Names.{Given, NamedIn};
+ghost use Rattle.mdl_c_calls.specs.ContextCodes.{acquire_code, acquire_told, done_code, kept_code, mark_in_context, mark_told, resume_code, resume_told, tried_code, tried_told};
 ghost use Rattle.mdl_c_calls.specs.Exports.{Replies, Tells};
 ghost use Rattle.mdl_c_calls.specs.Managers.{context_fault};
-ghost use Rattle.mdl_c_calls.specs.Names.{NamedIn};
-ghost use Rattle.mdl_c_calls.specs.Transactions.{changing_duration, making_explicit, making_transactional, Begins, Ends, Given, Marks, ServesContext, Reports, TellsKept, Untold, MakesWish};
+ghost use Rattle.mdl_c_calls.specs.Transactions.{changing_duration, making_explicit, making_transactional, Begins, Ends, Marks, ServesContext, Reports, TellsKept, Untold, MakesWish};
 
 use mdl_c_calls::{Mark, OneSpace};
 use std::alloc::Global;

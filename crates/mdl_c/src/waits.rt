@@ -1,7 +1,8 @@
 //! The calls that begin, settle, end and observe waits.
 ghost use Rattle.mdl_calls.specs.Words.{Begin_wait, End_wait, Kill, Poll_wait, Search, Settle_timeout, Wait_of};
-ghost use Rattle.mdl_c_calls.specs.Codes.{mode_at, no_mode};
-ghost use Rattle.mdl_c_calls.specs.Exports.{Nothing, Number, ServesAnybody, ServesCall, ServesDirect, ServesDirectWish};
+ghost use Rattle.mdl_c_parts.specs.Answers.{Nothing, Number};
+ghost use Rattle.mdl_c_parts.specs.Codes.{mode_at, no_mode};
+ghost use Rattle.mdl_c_calls.specs.Exports.{ServesAnybody, ServesCall, ServesDirect, ServesDirectWish};
 
 use mdl_c_calls::OneSpace;
 use std::alloc::Global;

@@ -5,9 +5,9 @@ use Rattle.std_heap.specs.contracts.GlobalAllocator.TheImpl.{ghosts, dict}
 use Rattle.std_heap.proofs.Global.TheLaws as heap
 use Rattle.mdl_c_calls.specs.contracts.manager.ServedSpace as ServedSpace
 use Rattle.mdl_c_calls.proofs.manager.ServedSpace.TheLaws as manager
-use Rattle.mdl_c_calls.specs.contracts.parts.Parts as Parts
+use Rattle.mdl_c_parts.specs.contracts.parts.Parts as Parts
 use Rattle.mdl_c_calls.specs.contracts.handle.Handle as Handle
-use Rattle.mdl_c_calls.proofs.Walking.{[], Slot, plain, Bx}
+use Rattle.mdl_c_parts.proofs.Walking.{[], Slot, plain, Bx}
 
 -- the allocator of the program's memory, and what is in the box
 abbrev pub boxed : Bx

@@ -4,9 +4,9 @@ use Rattle.std.specs.Prelude.{Option, Some, None, MatchOption, Result, Ok, Err}
 use Rattle.std.specs.Option.{option_map}
 use Rattle.std.specs.Result.{result_ok}
 use Rattle.mdl_calls.specs.Words.{Answer, Call}
-use Rattle.mdl_c_calls.specs.Codes.{code_at, code_of}
+use Rattle.mdl_c_parts.specs.Answers.{Beside, code_at, code_of}
 use Rattle.mdl_c_calls.specs.ContextCodes.{answered, served_code}
-use Rattle.mdl_c_calls.specs.Exports.{Beside, Replies, ServesCall, ServesDirect}
+use Rattle.mdl_c_calls.specs.Exports.{Replies, ServesCall, ServesDirect}
 use Rattle.mdl_c_calls.specs.Managers.{Asks, Managed, IsOutside, JoinsServed, JoinsFor, direct_fault, seat_of}
 use Rattle.mdl_c_calls.specs.declared.seat.Seat.{Seat}
 use Rattle.mdl_c_calls.specs.declared.unserved.Unserved.{Unserved}

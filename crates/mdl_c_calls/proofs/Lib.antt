@@ -3,9 +3,7 @@ pub mod ContextLemmas
 pub mod ExportLemmas
 pub mod LeaveLemmas
 pub mod ManagerLemmas
-pub mod NameLemmas
 pub mod SettledLemmas
 pub mod TransactionLemmas
 pub mod UnpinLemmas
-pub mod Walking
-pub mod WrittenLemmas
+pub mod WishLemmas

@@ -10,9 +10,10 @@ use Rattle.mdl_core.specs.CoreCalls.{has_settled}
 use Rattle.mdl_core.specs.Words.{seat_at}
 use Rattle.mdl_space.specs.SettledWaits.{settled_waits}
 use Rattle.mdl_space.proofs.SettledLemmas.{none-settled}
-use Rattle.mdl_c_calls.specs.Listings.{IsNoted, has_settled_wait, is_newly_settled, newly_settled, noted, noted_to, room_written, settled_number, settled_sessions, told_number}
+use Rattle.mdl_c_parts.specs.Rows.{room_written}
+use Rattle.mdl_c_calls.specs.Listings.{IsNoted, has_settled_wait, is_newly_settled, newly_settled, noted, noted_to, settled_number, settled_sessions, told_number}
 use Rattle.mdl_c_calls.specs.Managers.{Managed, has_member, session_count_of}
-use Rattle.mdl_c_calls.proofs.WrittenLemmas.{written-none}
+use Rattle.mdl_c_parts.proofs.WrittenLemmas.{written-none}
 
 -- ---- the room
 

@@ -1,10 +1,6 @@
 -- The codes of the calls that are refused if a session has a context, and of the calls of contexts. Those from 48 on are the refusals of a context,
 -- which come before those of its space.
-use Rattle.std.specs.Prelude.{ℕ, Bool, ◌==◌, Option, Some, None, Result, Ok, Err, if◌then◌else◌}
-use Rattle.mdl_key.specs.declared.mode.Duration.{Duration}
-use Rattle.mdl_key.specs.declared.mode.Duration.TheVariants.{Statement, Transaction, Explicit}
-use Rattle.mdl_key.specs.declared.namespace.Namespace.{Namespace}
-use Rattle.mdl_key.specs.declared.namespace.Namespace.TheVariants.{Global, Schema, Table, Commit, UserLevelLock}
+use Rattle.std.specs.Prelude.{ℕ, Bool, Option, Some, None, Result, Ok, Err, if◌then◌else◌}
 use Rattle.mdl_calls.specs.Words.{Answer}
 use Rattle.mdl_context.specs.declared.context_error.ContextError.{ContextError}
 use Rattle.mdl_context.specs.declared.context_error.ContextError.TheVariants.{StaleSavepoint, NotHeld, Waiting, Space}
@@ -15,37 +11,14 @@ use Rattle.mdl_context.specs.declared.request.Resume.{Resume}
 use Rattle.mdl_context.specs.declared.request.Resume.TheVariants as resume
 use Rattle.mdl_context.specs.declared.request.Tried.{Tried}
 use Rattle.mdl_context.specs.declared.request.Tried.TheVariants as tried
-use Rattle.mdl_c_calls.specs.Codes.{cause_code, no_memory, no_session, settled_code, would_wait}
+use Rattle.mdl_c_parts.specs.Codes.{cause_code, no_memory, no_session, settled_code, would_wait}
 use Rattle.mdl_c_calls.specs.declared.mark.Mark.{Mark}
 use Rattle.mdl_c_calls.specs.declared.unserved.Unserved.{Unserved}
 use Rattle.mdl_c_calls.specs.declared.unserved.Unserved.TheVariants as unserved
 
--- there is no such duration, there is no such namespace
-abbrev pub no_duration : ℕ
-no_duration = 28
-
-abbrev pub no_namespace : ℕ
-no_namespace = 29
-
 -- the context keeps no such ticket
 abbrev pub not_kept : ℕ
 not_kept = 49
-
--- the duration of a number, in the order of MySQL 5.7
-abbrev pub duration_at : ℕ → Option Duration
-duration_at number =
-    if number == 0 then Some Statement
-    else (if number == 1 then Some Transaction
-    else (if number == 2 then Some Explicit else None))
-
--- the namespace of a number, in the order of MySQL 5.7, which has other namespaces between them
-abbrev pub namespace_at : ℕ → Option Namespace
-namespace_at number =
-    if number == 0 then Some Global
-    else (if number == 1 then Some Schema
-    else (if number == 2 then Some Table
-    else (if number == 3 then Some Commit
-    else (if number == 4 then Some UserLevelLock else None))))
 
 -- the code of why a manager refuses a session's call
 abbrev pub unserved_code : Unserved → ℕ

@@ -3,7 +3,8 @@ use Rattle.std.specs.Prelude.{◌≡◌, ◌⊎◌, ℕ, ◌==◌, true, false, 
 use Rattle.std.specs.Result.{result_ok}
 use Rattle.mdl_calls.specs.declared.new_error.NewError.{NewError}
 use Rattle.mdl_calls.specs.Words.{Answer, Call, new_fault}
-use Rattle.mdl_c_calls.specs.Codes.{closed, code_of, is_open_already, library_version, new_code, no_memory, no_session, other_version, told_at}
+use Rattle.mdl_c_parts.specs.Answers.{Beside, Nothing, code_of}
+use Rattle.mdl_c_parts.specs.Codes.{closed, is_open_already, library_version, new_code, no_memory, no_session, other_version}
 use Rattle.mdl_c_calls.specs.ContextCodes.{served_code}
 use Rattle.mdl_c_calls.specs.Managers.{Asks, Managed, JoinsServed, JoinsFor, direct_fault, has_member, new_manager, seat_of}
 use Rattle.mdl_c_calls.specs.declared.seat.Seat.{Seat}
@@ -12,18 +13,6 @@ use Rattle.mdl_c_calls.specs.declared.unserved.Unserved.{Unserved}
 -- the call returns this code, and the manager, if there is one, is unchanged
 abbrev pub Tells : ℕ → Option Managed → ℕ → Option Managed → Type 0
 Tells wanted before code after = (code ≡ wanted) × (after ≡ before)
-
--- what a call writes beside its code: a condition on the answer, which there is only if the manager made the call
-abbrev pub Beside : Type 1
-Beside = Option Answer → Type 0
-
--- the call writes nothing
-abbrev pub Nothing : Beside
-Nothing _ = Unit {0}
-
--- the call writes the answer's number over the old one
-abbrev pub Number : ℕ → ℕ → Beside
-Number old new answer = new ≡ told_at answer old
 
 -- the manager makes a call, `joins` relates the answer to the manager before and after it, and the code and the writes are those of the answer
 abbrev pub Answers : (Answer → Managed → Managed → Type 0) → Managed → ℕ → Option Managed → Beside → Type 0

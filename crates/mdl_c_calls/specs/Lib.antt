@@ -1,10 +1,5 @@
-pub mod Clashes
-pub mod Codes
 pub mod ContextCodes
 pub mod Exports
-pub mod Handles
 pub mod Listings
 pub mod Managers
-pub mod Messages
-pub mod Names
 pub mod Transactions

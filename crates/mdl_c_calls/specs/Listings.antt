@@ -1,43 +1,25 @@
 -- What C can read of the locks: which waits are settled, what a session holds, which keys there are, and who holds and waits for each lock. That is
 -- what the table metadata_locks of MySQL 5.7's Performance Schema shows. The form is this project's own. Reading changes nothing.
-use Rattle.std.specs.Prelude.{◌≡◌, ℕ, zero, suc, ◌-◌, Bool, false, not, ◌&&◌, ◌==◌, nat_le, List, [], ◌++◌, filter, length, map, take, drop, slice_get, slice_set, Option, Some, None, MatchOption, if◌then◌else◌}
+use Rattle.std.specs.Prelude.{◌≡◌, ℕ, zero, suc, ◌-◌, Bool, false, not, ◌&&◌, ◌==◌, nat_le, List, [], ◌++◌, filter, length, map, slice_get, slice_set, Option, Some, None, MatchOption, if◌then◌else◌}
 use Rattle.std.specs.List.{range_with_len}
 use Rattle.std.specs.Option.{option_and_then, option_map, option_map_or, option_or, unwrap_or}
 use Rattle.mdl_key.specs.declared.mode.Duration.{Duration}
-use Rattle.mdl_key.specs.Words.{mode_rank}
 use Rattle.mdl_book.specs.declared.book_view.BookView.{BookView}
 use Rattle.mdl_book.specs.declared.ticket.Ticket.{Ticket}
-use Rattle.mdl_calls.specs.declared.answers.Held.{Held}
 use Rattle.mdl_calls.specs.declared.answers.Settled.{Settled}
-use Rattle.mdl_calls.specs.declared.answers.Settled.TheVariants as settled
-use Rattle.mdl_calls.specs.Words.{Holds}
 use Rattle.mdl_context.specs.declared.kept.Kept.{Kept}
 use Rattle.mdl_context.specs.declared.kept.Wanted.{Wanted}
 use Rattle.mdl_context.specs.Contexts.{ContextView, duration_rank, ticket_kept}
 use Rattle.mdl_core.specs.declared.pending.Pending.{Pending}
 use Rattle.mdl_core.specs.CoreCalls.{has_settled}
 use Rattle.mdl_core.specs.Words.{Core, book_at, has_key, seat_at}
-use Rattle.mdl_c_calls.specs.declared.rows.HeldRow.{HeldRow}
-use Rattle.mdl_c_calls.specs.declared.rows.LockRow.{LockRow}
-use Rattle.mdl_c_calls.specs.Codes.{closed, no_place}
-use Rattle.mdl_c_calls.specs.Exports.{Beside, Tells}
+use Rattle.mdl_c_parts.specs.declared.rows.LockRow.{LockRow}
+use Rattle.mdl_c_parts.specs.Codes.{closed, no_place}
+use Rattle.mdl_c_parts.specs.Rows.{granted_status, lock_row, room_written, unkept_duration, waiting_status}
+use Rattle.mdl_c_calls.specs.Exports.{Tells}
 use Rattle.mdl_c_calls.specs.Managers.{Managed, has_member, seat_of, session_count_of}
 use Rattle.mdl_c_calls.specs.declared.seat.Seat.{Seat}
 use Rattle.mdl_c_calls.specs.declared.seat.Seat.TheVariants as seat
-
--- ---- lists in the caller's memory
-
--- the room after a list is written: as many entries as fit, and behind them what was there before
-abbrev pub room_written : {T : Type 0} → List T → List T → List T
-room_written items room = take (length room) items ++ drop (length items) room
-
--- a list is written as far as there is room, and the count is the length of the whole list
-abbrev pub IsListWritten : {T : Type 0} → List T → List T → List T → ℕ → Type 0
-IsListWritten items before after count = (after ≡ room_written items before) × (count ≡ length items)
-
--- no list is written: room and count are unchanged
-abbrev pub IsKept : {T : Type 0} → List T → List T → ℕ → ℕ → Type 0
-IsKept before after old_count count = (after ≡ before) × (count ≡ old_count)
 
 -- ---- what is shown
 
@@ -102,46 +84,10 @@ IsNoted manager told after room =
 
 -- ---- tickets
 
--- the row of a held ticket. The mode is a number
-abbrev pub held_row : Held → HeldRow
-held_row held = record { ticket = held.id; place = held.place; mode = mode_rank held.mode }
-
--- the tickets that an answer lists are written, in the order in which the session got them. If the answer is no list, nothing is written
-abbrev pub HeldTold : List HeldRow → List HeldRow → ℕ → ℕ → Beside
-HeldTold before after old_count count (Some (Holds tickets)) = IsListWritten (map held_row tickets) before after count
-HeldTold before after old_count count _ = IsKept before after old_count count
-
--- the status of a ticket in a book: it is granted, or waiting, which the Performance Schema calls pending, or its wait is lost and not ended
-abbrev pub granted_status : ℕ
-granted_status = 0
-
-abbrev pub pending_status : ℕ
-pending_status = 1
-
-abbrev pub lost_as_victim_status : ℕ
-lost_as_victim_status = 2
-
-abbrev pub lost_by_timeout_status : ℕ
-lost_by_timeout_status = 3
-
-abbrev pub lost_by_kill_status : ℕ
-lost_by_kill_status = 4
-
--- the status of a waiting ticket whose wait is settled in this way, if it is settled
-abbrev pub waiting_status : Option Settled → ℕ
-waiting_status (Some settled.Victim) = lost_as_victim_status
-waiting_status (Some settled.Timeout) = lost_by_timeout_status
-waiting_status (Some settled.Killed) = lost_by_kill_status
-waiting_status _ = pending_status
-
 -- how the wait of a session is settled, if the manager has that session and it has a settled wait
 abbrev pub how_settled : ℕ → Managed → Option Settled
 how_settled who manager =
     if has_member who manager then option_and_then (λ (wait : Pending). wait.settled) (seat_at who manager.space).wait else None
-
--- the duration of a ticket that no context keeps
-abbrev pub unkept_duration : ℕ
-unkept_duration = 3
 
 -- how long a context keeps the ticket of a number: the one that it has, or else the one that it waits for
 abbrev pub duration_in : ℕ → ContextView → Option Duration
@@ -156,11 +102,6 @@ duration_at_seat id _ = unkept_duration
 -- how long a ticket is kept, as a number
 abbrev pub duration_told : Managed → Ticket → ℕ
 duration_told manager ticket = duration_at_seat ticket.number (seat_of ticket.session manager)
-
--- the row of a ticket with this status and this duration. The mode is a number
-abbrev pub lock_row : ℕ → ℕ → Ticket → LockRow
-lock_row status duration ticket =
-    record { ticket = ticket.number; session = ticket.session; mode = mode_rank ticket.mode; status = status; duration = duration }
 
 -- the rows of a granted and of a waiting ticket
 abbrev pub granted_row : Managed → Ticket → LockRow

@@ -15,18 +15,21 @@ use Rattle.mdl_context.specs.declared.kept.Wanted.{Wanted}
 use Rattle.mdl_context.specs.declared.request.Mark.{Mark}
 use Rattle.mdl_context.specs.Contexts.{ContextView, current_mark, holds_as_strong}
 use Rattle.mdl_context.specs.Holdings.{kept_for, transactional, with_duration}
-use Rattle.mdl_context.specs.Releases.{giving_up_all, release_fault, unless, waiting_fault}
+use Rattle.mdl_context.specs.Releases.{ending_explicit, ending_statement, ending_transaction, giving_up_all, release_fault, releasing, rolling_back, unless, waiting_fault}
 use Rattle.mdl_context.specs.Requests.{Outcome}
 use Rattle.mdl_context.specs.Tidying.{unpinning_all}
+use Rattle.mdl_context.specs.Upgrades.{downgrading}
 use Rattle.mdl_context.specs.Waits.{giving_up_wait}
 use Rattle.mdl_context.specs.Wishes.{Wish}
-use Rattle.mdl_c_calls.specs.Codes.{closed, mode_at, no_memory, no_mode}
-use Rattle.mdl_c_calls.specs.ContextCodes.{duration_at, namespace_at, no_duration, unserved_code}
+use Rattle.mdl_c_parts.specs.Codes.{closed, duration_at, mode_at, namespace_at, no_duration, no_memory, no_mode}
+use Rattle.mdl_c_parts.specs.Names.{Given, NamedIn}
+use Rattle.mdl_c_calls.specs.ContextCodes.{unserved_code}
 use Rattle.mdl_c_calls.specs.Exports.{Replies, Tells}
 use Rattle.mdl_c_calls.specs.Managers.{Managed, context_fault, direct_fault, seat_of}
-use Rattle.mdl_c_calls.specs.Names.{NamedIn}
 use Rattle.mdl_c_calls.specs.declared.seat.Seat.{Seat}
 use Rattle.mdl_c_calls.specs.declared.seat.Seat.TheVariants.{Direct, Kept}
+use Rattle.mdl_c_calls.specs.declared.ticket_change.TicketChange.{TicketChange}
+use Rattle.mdl_c_calls.specs.declared.ticket_change.TicketChange.TheVariants as change
 use Rattle.mdl_c_calls.specs.declared.unserved.Unserved.{Unserved}
 use Rattle.mdl_c_calls.specs.declared.unserved.Unserved.TheVariants.{InUse}
 
@@ -49,6 +52,20 @@ making_explicit context =
 -- the explicit tickets, except those of user-level locks, are kept until the transaction ends
 abbrev pub making_transactional : ContextView → Program (Outcome (Unit {0}))
 making_transactional context = unless (waiting_fault context) context (Give (Ok tt, record context { kept = map (transactional context.known) context.kept }))
+
+-- ---- changes of the tickets that a context keeps
+
+-- what the context does for each of them
+abbrev pub changing_tickets : TicketChange → ContextView → Program (Outcome (Unit {0}))
+changing_tickets (change.Release id) = releasing id
+changing_tickets (change.Downgrade id mode) = downgrading id mode
+changing_tickets (change.SetDuration id duration) = changing_duration id duration
+changing_tickets (change.RollBackTo mark) = rolling_back mark
+changing_tickets change.EndStatement = ending_statement
+changing_tickets change.EndTransaction = ending_transaction
+changing_tickets change.ReleaseExplicit = ending_explicit
+changing_tickets change.MakeExplicit = making_explicit
+changing_tickets change.MakeTransactional = making_transactional
 
 -- ---- the call of a session's context
 
@@ -82,11 +99,6 @@ abbrev pub Untold : {R : Type 0} → Option R → Type 0
 Untold answer = Unit {0}
 
 -- ---- wishes
-
--- `Done` holds of what a number names, or `Refused` of the code if it names nothing
-abbrev pub Given : {W : Type 0} → ℕ → Option W → (W → Type 0) → (ℕ → Type 0) → Type 0
-Given wrong None Done Refused = Refused wrong
-Given wrong (Some wish) Done Refused = Done wish
 
 -- `Done` holds of the wish (a request) with these numbers of mode and duration, and this number and names of the key, or `Refused` of a code
 abbrev pub MakesWish : ℕ → List ℕ → List ℕ → ℕ → ℕ → (Wish → Type 0) → (ℕ → Type 0) → Type 0

@@ -1,45 +1,14 @@
 //! The codes of the calls that are refused if a session has a context, and of the calls of contexts.
 ghost use Rattle.std.specs.Prelude.{◌≡◌};
 ghost use Rattle.std.specs.Result.{result_ok};
-ghost use Rattle.mdl_c_calls.specs.ContextCodes.{acquire_code, acquire_told, done_code, duration_at, fault_code, kept_code, mark_told, namespace_at, resume_code, resume_told, served_code, tried_code, tried_told, unserved_code};
+ghost use Rattle.mdl_c_calls.specs.ContextCodes.{acquire_code, acquire_told, done_code, fault_code, kept_code, mark_told, resume_code, resume_told, served_code, tried_code, tried_told, unserved_code};
 
-use crate::codes::{DONE, NO_MEMORY, NO_SESSION, WAITING, WOULD_WAIT, cause_code, settled_code};
 use crate::mark::Mark;
 use crate::unserved::Unserved;
+use mdl_c_parts::{DONE, NO_MEMORY, NO_SESSION, WAITING, WOULD_WAIT, cause_code, settled_code};
 use mdl_context::{Acquire, ContextError, Resume, Tried};
-use mdl_key::{Duration, Namespace};
-
-pub const NO_DURATION: u32 = 28;
-
-pub const NO_NAMESPACE: u32 = 29;
 
 const NOT_KEPT: u32 = 49;
-
-/// Returns the duration of a number, if there is one.
-pub fn duration_of(number: u8) -> Option<Duration>
-    ensures { result ≡ duration_at number }
-{
-    match number {
-        0 => Some(Duration::Statement),
-        1 => Some(Duration::Transaction),
-        2 => Some(Duration::Explicit),
-        _ => None,
-    }
-}
-
-/// Returns the namespace of a number, if there is one.
-pub fn namespace_of(number: u8) -> Option<Namespace>
-    ensures { result ≡ namespace_at number }
-{
-    match number {
-        0 => Some(Namespace::Global),
-        1 => Some(Namespace::Schema),
-        2 => Some(Namespace::Table),
-        3 => Some(Namespace::Commit),
-        4 => Some(Namespace::UserLevelLock),
-        _ => None,
-    }
-}
 
 /// Returns the code that says why a `ServedSpace` refuses a session's call.
 pub fn unserved_code(why: Unserved) -> u32

@@ -1,11 +1,11 @@
 //! What the C program's memory holds of a `ServedSpace`: a pointer to its box, or null.
 ghost use Rattle.std.specs.Prelude.{◌≡◌, true, None, Some, is_some, Option, MatchOption};
-ghost use Rattle.mdl_c_calls.specs.Handles.{keeps};
+ghost use Rattle.mdl_c_parts.specs.Handles.{keeps};
 ghost use Rattle.mdl_c_calls.specs.Managers.{Managed};
 ghost use Rattle.mdl_c_calls.specs.contracts.manager.ServedSpace.{the_row};
 
 use crate::manager::ServedSpace;
-use crate::parts::Parts;
+use mdl_c_parts::Parts;
 use std::alloc::Global;
 use std::marker::Model;
 use std::{mem, ptr};

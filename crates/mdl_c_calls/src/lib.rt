@@ -1,8 +1,8 @@
 //! What the library for C does: a [`CoreSpace`](mdl_space::CoreSpace) behind a handle in memory of the C program. The crate `mdl_c` exports each of these
 //! functions under its name.
 //!
-//! Each function returns a code (`specs/Codes`). Its contract names a call of the lock space (`specs/Exports`): the function does to the manager behind
-//! the handle what that call does, and returns the code of the call's answer.
+//! Each function returns a code (`specs/Codes` of `mdl_c_parts`). Its contract names a call of the lock space (`specs/Exports`): the function does to the
+//! manager behind the handle what that call does, and returns the code of the call's answer.
 //!
 //! The C program keeps a session's tickets by their numbers, or a [`Context`](mdl_context::Context) keeps them (`specs/Transactions`).
 #![tactic(auto)]
@@ -14,13 +14,9 @@ mod keys;
 mod listings;
 mod manager;
 mod mark;
-mod messages;
-mod modes;
-mod names;
-mod parts;
-mod rows;
 mod seat;
 mod spaces;
+mod ticket_change;
 mod tickets;
 mod transactions;
 mod unserved;
@@ -34,9 +30,6 @@ pub use listings::{
     gaz_one_held, gaz_one_key_of, gaz_one_locks, gaz_one_places, gaz_one_settled, gaz_one_woken,
 };
 pub use mark::Mark;
-pub use messages::gaz_one_message;
-pub use modes::gaz_one_clashes;
-pub use rows::{HeldRow, LockRow};
 pub use spaces::{gaz_one_close, gaz_one_open_version, gaz_one_version};
 pub use tickets::{
     gaz_one_clone, gaz_one_downgrade, gaz_one_merge, gaz_one_release, gaz_one_try, gaz_one_upgrade,

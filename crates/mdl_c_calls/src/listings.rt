@@ -3,14 +3,15 @@ ghost use Rattle.std.specs.Prelude.{◌≡◌, MatchOption, length};
 ghost use Rattle.std.specs.Option.{option_copied, option_map};
 ghost use Rattle.mdl_key.specs.Keys.{namespace_rank};
 ghost use Rattle.mdl_calls.specs.Words.{List_held, listed};
-ghost use Rattle.mdl_c_calls.specs.Codes.{code_at, no_place};
+ghost use Rattle.mdl_c_parts.specs.Answers.{HeldTold, code_at};
+ghost use Rattle.mdl_c_parts.specs.Codes.{no_place};
+ghost use Rattle.mdl_c_parts.specs.Rows.{IsKept, IsListWritten};
 ghost use Rattle.mdl_c_calls.specs.Exports.{ServesCall};
-ghost use Rattle.mdl_c_calls.specs.Listings.{HeldTold, IsKept, IsListWritten, IsNoted, ShowsLock, ShowsSpace, lock_rows, newly_settled, settled_sessions};
+ghost use Rattle.mdl_c_calls.specs.Listings.{IsNoted, ShowsLock, ShowsSpace, lock_rows, newly_settled, settled_sessions};
 
-use crate::codes::{CLOSED, DONE, NO_PLACE, NO_SESSION, cause_code};
 use crate::handle::OneSpace;
-use crate::rows::{HeldRow, LockRow, tell_held, tell_text};
 use mdl_book::Book;
+use mdl_c_parts::{CLOSED, DONE, HeldRow, LockRow, NO_PLACE, NO_SESSION, tell_key};
 use mdl_space::{Held, SpaceError};
 use std::alloc::Global;
 
@@ -136,11 +137,7 @@ fn held_code(
     ensures told { HeldTold room.old room.new count.old count.new (option_map listed answer) }
 {
     match answer {
-        Some(Ok(tickets)) => {
-            tell_held(&tickets, room, count);
-            DONE
-        }
-        Some(Err(cause)) => cause_code(cause),
+        Some(answer) => mdl_c_parts::held_code(answer, room, count),
         None => NO_SESSION,
     }
 }
@@ -162,10 +159,14 @@ fn key_code(
     let Some(book) = book else {
         return NO_PLACE;
     };
-    let key = book.key();
-    *namespace = key.namespace() as u8;
-    tell_text(key.schema_name(), schema, schema_count);
-    tell_text(key.table_name(), table, table_count);
+    tell_key(
+        book.key(),
+        namespace,
+        schema,
+        schema_count,
+        table,
+        table_count,
+    );
     DONE
 }
 

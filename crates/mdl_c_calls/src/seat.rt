@@ -6,7 +6,7 @@ ghost use Rattle.mdl_context.specs.Holdings.{has_ticket_number};
 ghost use Rattle.mdl_c_calls.specs.Listings.{duration_at_seat, duration_in};
 ghost use Rattle.mdl_c_calls.specs.Managers.{AreRisingAt};
 
-use crate::rows::UNKEPT;
+use mdl_c_parts::UNKEPT;
 use mdl_context::{Context, Kept};
 use mdl_key::Duration;
 use mdl_space::{CoreSpace, TicketId};

@@ -1,11 +1,11 @@
 //! The calls that make a space and free it, and the one that tells the library's version.
 ghost use Rattle.std.specs.Prelude.{◌≡◌};
-ghost use Rattle.mdl_c_calls.specs.Codes.{library_version};
+ghost use Rattle.mdl_c_parts.specs.Codes.{library_version};
 ghost use Rattle.mdl_c_calls.specs.Exports.{Closes, OpensSpace, OpensVersion};
 
-use crate::codes::{CLOSED, DONE, IS_OPEN, NO_MEMORY, OTHER_VERSION, VERSION, new_code};
 use crate::handle::OneSpace;
 use crate::manager::ServedSpace;
+use mdl_c_parts::{CLOSED, DONE, IS_OPEN, NO_MEMORY, OTHER_VERSION, VERSION, new_code};
 use std::alloc::Global;
 
 /// Returns the version of the library.

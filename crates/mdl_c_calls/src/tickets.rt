@@ -1,11 +1,13 @@
 //! The calls that request a lock without waiting, and those that change held tickets.
 ghost use Rattle.std.specs.Prelude.{◌≡◌};
 ghost use Rattle.mdl_calls.specs.Words.{Clone_ticket, Downgrade, Merge, Release, Try_now, Upgrade_now};
-ghost use Rattle.mdl_c_calls.specs.Codes.{mode_at, no_mode};
-ghost use Rattle.mdl_c_calls.specs.Exports.{Nothing, Number, ServesDirect, ServesDirectWish};
+ghost use Rattle.mdl_c_parts.specs.Answers.{Nothing, Number};
+ghost use Rattle.mdl_c_parts.specs.Codes.{mode_at, no_mode};
+ghost use Rattle.mdl_c_calls.specs.Exports.{ServesDirect, ServesDirectWish};
 
-use crate::codes::{CLOSED, NO_MODE, attempt_code, clone_code, done_code, mode_of, upgrade_code};
+use crate::codes::{attempt_code, clone_code, done_code, upgrade_code};
 use crate::handle::OneSpace;
+use mdl_c_parts::{CLOSED, NO_MODE, mode_of};
 use std::alloc::Global;
 
 /// Requests a lock at a place that the session pins, without waiting.

@@ -4,21 +4,20 @@ ghost use Rattle.mdl_context.specs.Releases.{ending_explicit, ending_statement, 
 ghost use Rattle.mdl_context.specs.Requests.{acquiring, trying};
 ghost use Rattle.mdl_context.specs.Upgrades.{downgrading, upgrading};
 ghost use Rattle.mdl_context.specs.Waits.{giving_up_wait, resuming};
-ghost use Rattle.mdl_c_calls.specs.Codes.{mode_at, no_mode};
-ghost use Rattle.mdl_c_calls.specs.ContextCodes.{acquire_code, acquire_told, done_code, duration_at, kept_code, mark_in_context, mark_told, namespace_at, no_duration, resume_code, resume_told, tried_code, tried_told};
+ghost use Rattle.mdl_c_parts.specs.Codes.{duration_at, mode_at, namespace_at, no_duration, no_mode};
+ghost use Rattle.mdl_c_parts.specs.Names.{Given, NamedIn};
+ghost use Rattle.mdl_c_calls.specs.ContextCodes.{acquire_code, acquire_told, done_code, kept_code, mark_in_context, mark_told, resume_code, resume_told, tried_code, tried_told};
 ghost use Rattle.mdl_c_calls.specs.Exports.{Replies, Tells};
 ghost use Rattle.mdl_c_calls.specs.Managers.{context_fault};
-ghost use Rattle.mdl_c_calls.specs.Names.{NamedIn};
-ghost use Rattle.mdl_c_calls.specs.Transactions.{changing_duration, making_explicit, making_transactional, Begins, Ends, Given, Marks, ServesContext, Reports, TellsKept, Untold, MakesWish};
+ghost use Rattle.mdl_c_calls.specs.Transactions.{changing_duration, changing_tickets, making_explicit, making_transactional, Begins, Ends, Marks, ServesContext, Reports, TellsKept, Untold, MakesWish};
 
-use crate::codes::{CLOSED, NO_MODE, mode_of};
 use crate::context_codes::{
-    NO_DURATION, acquire_code, duration_of, finish_code, kept_code, mark_code, resume_code,
-    served_code, tried_code,
+    acquire_code, finish_code, kept_code, mark_code, resume_code, served_code, tried_code,
 };
 use crate::handle::OneSpace;
 use crate::mark::Mark;
-use crate::names::key_of;
+use crate::ticket_change::TicketChange;
+use mdl_c_parts::{CLOSED, NO_DURATION, NO_MODE, duration_of, key_of, mode_of};
 use mdl_key::{Duration, Key, Mode};
 use std::alloc::Global;
 
@@ -227,6 +226,18 @@ pub fn gaz_one_context_upgrade(
     code
 }
 
+// Changes the tickets that the session's context keeps.
+fn change(alloc: Global, space: &mut OneSpace, who: u16, change: TicketChange) -> u32
+    ensures { ServesContext who (changing_tickets change) done_code space.old.handle.manager result space.new.handle.manager Untold }
+{
+    let Some(mut manager) = space.take(alloc) else {
+        return CLOSED;
+    };
+    let code = finish_code(manager.change(who, change));
+    space.put(manager);
+    code
+}
+
 /// Downgrades a kept ticket to a weaker mode.
 pub fn gaz_one_context_downgrade(
     alloc: Global,
@@ -242,24 +253,14 @@ pub fn gaz_one_context_downgrade(
     let Some(mode) = mode_of(mode) else {
         return NO_MODE;
     };
-    let Some(mut manager) = space.take(alloc) else {
-        return CLOSED;
-    };
-    let code = finish_code(manager.downgrade_kept(who, ticket, mode));
-    space.put(manager);
-    code
+    change(alloc, space, who, TicketChange::Downgrade(ticket, mode))
 }
 
 /// Releases a kept ticket.
 pub fn gaz_one_context_release(alloc: Global, space: &mut OneSpace, who: u16, ticket: u64) -> u32
     ensures { ServesContext who (releasing ticket) done_code space.old.handle.manager result space.new.handle.manager Untold }
 {
-    let Some(mut manager) = space.take(alloc) else {
-        return CLOSED;
-    };
-    let code = finish_code(manager.release_kept(who, ticket));
-    space.put(manager);
-    code
+    change(alloc, space, who, TicketChange::Release(ticket))
 }
 
 // Releases all tickets of a key that the session's context keeps.
@@ -309,48 +310,33 @@ pub fn gaz_one_savepoint(alloc: Global, space: &mut OneSpace, who: u16, mark: &m
 pub fn gaz_one_rollback_to(alloc: Global, space: &mut OneSpace, who: u16, mark: Mark) -> u32
     ensures { ServesContext who (rolling_back (mark_in_context mark)) done_code space.old.handle.manager result space.new.handle.manager Untold }
 {
-    let Some(mut manager) = space.take(alloc) else {
-        return CLOSED;
-    };
-    let code = finish_code(manager.rollback_to(who, mark.in_context()));
-    space.put(manager);
-    code
+    change(
+        alloc,
+        space,
+        who,
+        TicketChange::RollBackTo(mark.in_context()),
+    )
 }
 
 /// Ends a statement: releases its tickets.
 pub fn gaz_one_end_statement(alloc: Global, space: &mut OneSpace, who: u16) -> u32
     ensures { ServesContext who ending_statement done_code space.old.handle.manager result space.new.handle.manager Untold }
 {
-    let Some(mut manager) = space.take(alloc) else {
-        return CLOSED;
-    };
-    let code = finish_code(manager.end_statement(who));
-    space.put(manager);
-    code
+    change(alloc, space, who, TicketChange::EndStatement)
 }
 
 /// Ends a transaction: releases the tickets of the statement and of the transaction.
 pub fn gaz_one_end_transaction(alloc: Global, space: &mut OneSpace, who: u16) -> u32
     ensures { ServesContext who ending_transaction done_code space.old.handle.manager result space.new.handle.manager Untold }
 {
-    let Some(mut manager) = space.take(alloc) else {
-        return CLOSED;
-    };
-    let code = finish_code(manager.end_transaction(who));
-    space.put(manager);
-    code
+    change(alloc, space, who, TicketChange::EndTransaction)
 }
 
 /// Releases the explicit tickets.
 pub fn gaz_one_release_explicit(alloc: Global, space: &mut OneSpace, who: u16) -> u32
     ensures { ServesContext who ending_explicit done_code space.old.handle.manager result space.new.handle.manager Untold }
 {
-    let Some(mut manager) = space.take(alloc) else {
-        return CLOSED;
-    };
-    let code = finish_code(manager.release_explicit(who));
-    space.put(manager);
-    code
+    change(alloc, space, who, TicketChange::ReleaseExplicit)
 }
 
 /// Keeps a ticket for this duration from now on.
@@ -368,34 +354,24 @@ pub fn gaz_one_set_duration(
     let Some(duration) = duration_of(duration) else {
         return NO_DURATION;
     };
-    let Some(mut manager) = space.take(alloc) else {
-        return CLOSED;
-    };
-    let code = finish_code(manager.set_duration(who, ticket, duration));
-    space.put(manager);
-    code
+    change(
+        alloc,
+        space,
+        who,
+        TicketChange::SetDuration(ticket, duration),
+    )
 }
 
 /// Makes all tickets explicit: the context keeps them until they are released.
 pub fn gaz_one_make_explicit(alloc: Global, space: &mut OneSpace, who: u16) -> u32
     ensures { ServesContext who making_explicit done_code space.old.handle.manager result space.new.handle.manager Untold }
 {
-    let Some(mut manager) = space.take(alloc) else {
-        return CLOSED;
-    };
-    let code = finish_code(manager.make_explicit(who));
-    space.put(manager);
-    code
+    change(alloc, space, who, TicketChange::MakeExplicit)
 }
 
 /// Makes the explicit tickets, except those of user-level locks, last until the transaction ends.
 pub fn gaz_one_make_transactional(alloc: Global, space: &mut OneSpace, who: u16) -> u32
     ensures { ServesContext who making_transactional done_code space.old.handle.manager result space.new.handle.manager Untold }
 {
-    let Some(mut manager) = space.take(alloc) else {
-        return CLOSED;
-    };
-    let code = finish_code(manager.make_transactional(who));
-    space.put(manager);
-    code
+    change(alloc, space, who, TicketChange::MakeTransactional)
 }

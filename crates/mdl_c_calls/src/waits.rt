@@ -1,14 +1,13 @@
 //! The calls that begin, settle, end and observe waits.
 ghost use Rattle.std.specs.Prelude.{◌≡◌};
 ghost use Rattle.mdl_calls.specs.Words.{Begin_wait, End_wait, Kill, Poll_wait, Search, Settle_timeout, Wait_of};
-ghost use Rattle.mdl_c_calls.specs.Codes.{mode_at, no_mode};
-ghost use Rattle.mdl_c_calls.specs.Exports.{Nothing, Number, ServesAnybody, ServesCall, ServesDirect, ServesDirectWish};
+ghost use Rattle.mdl_c_parts.specs.Answers.{Nothing, Number};
+ghost use Rattle.mdl_c_parts.specs.Codes.{mode_at, no_mode};
+ghost use Rattle.mdl_c_calls.specs.Exports.{ServesAnybody, ServesCall, ServesDirect, ServesDirectWish};
 
-use crate::codes::{
-    CLOSED, NO_MODE, begun_code, end_code, kill_code, mode_of, poll_code, search_code,
-    timeout_code, wait_code,
-};
+use crate::codes::{begun_code, end_code, poll_code, search_code, timeout_code, wait_code};
 use crate::handle::OneSpace;
+use mdl_c_parts::{CLOSED, NO_MODE, kill_code, mode_of};
 use std::alloc::Global;
 
 /// Requests a lock at a place that the session pins, and begins to wait for it if it can't be granted now.

@@ -4,16 +4,17 @@ ghost use Rattle.mdl_space.specs.CoreMembers.{core_space};
 ghost use Rattle.mdl_calls.specs.Words.{HasNothing, Runs};
 ghost use Rattle.mdl_core.specs.Words.{SpeaksFor, locks_at};
 ghost use Rattle.mdl_context.specs.Contexts.{Attends, LeavesOthers};
-ghost use Rattle.mdl_context.specs.Releases.{ending_explicit, ending_statement, ending_transaction, releasing, releasing_name, rolling_back};
+ghost use Rattle.mdl_context.specs.Releases.{releasing_name};
 ghost use Rattle.mdl_context.specs.Requests.{acquiring, trying};
-ghost use Rattle.mdl_context.specs.Upgrades.{downgrading, upgrading};
+ghost use Rattle.mdl_context.specs.Upgrades.{upgrading};
 ghost use Rattle.mdl_context.specs.Waits.{giving_up_wait, resuming};
 ghost use Rattle.mdl_c_calls.specs.Managers.{context_fault, direct_fault, seat_of, Asks};
-ghost use Rattle.mdl_c_calls.specs.Transactions.{begin_fault, changing_duration, ending_from, making_explicit, making_transactional, new_context, with_seat, EndsContext, Marks, RunsFor, TellsKept, UnpinsAll};
+ghost use Rattle.mdl_c_calls.specs.Transactions.{begin_fault, changing_tickets, ending_from, new_context, with_seat, EndsContext, Marks, RunsFor, TellsKept, UnpinsAll};
 ghost use Rattle.mdl_c_calls.specs.declared.seat.Seat.TheVariants.{Kept};
 
 use super::ServedSpace;
 use crate::seat::Seat;
+use crate::ticket_change::TicketChange;
 use crate::unserved::Unserved;
 use mdl_context::{Acquire, Context, ContextError, Mark, Request, Resume, Tried};
 use mdl_key::{Duration, Key, Mode};
@@ -161,35 +162,19 @@ impl ServedSpace {
         Ok(context.upgrade(&mut self.space, ticket, mode))
     }
 
-    /// Downgrades a kept ticket to a weaker mode.
-    pub fn downgrade_kept(
+    /// Changes the tickets that the session's context keeps.
+    pub fn change(
         &mut self,
         who: u16,
-        ticket: TicketId,
-        mode: Mode,
+        change: TicketChange,
     ) -> Result<Result<(), ContextError>, Unserved>
-        ensures { Asks (context_fault (seat_of who self.old)) (λ r. RunsFor who (downgrading ticket mode) r self.old self.new) result self.old self.new }
+        ensures { Asks (context_fault (seat_of who self.old)) (λ r. RunsFor who (changing_tickets change) r self.old self.new) result self.old self.new }
     {
         let index = self.index_of(who)?;
         let Seat::Kept(context) = &mut self.seats[index] else {
             return Err(Unserved::NoContext);
         };
-        Ok(context.downgrade(&mut self.space, ticket, mode))
-    }
-
-    /// Releases a kept ticket.
-    pub fn release_kept(
-        &mut self,
-        who: u16,
-        ticket: TicketId,
-    ) -> Result<Result<(), ContextError>, Unserved>
-        ensures { Asks (context_fault (seat_of who self.old)) (λ r. RunsFor who (releasing ticket) r self.old self.new) result self.old self.new }
-    {
-        let index = self.index_of(who)?;
-        let Seat::Kept(context) = &mut self.seats[index] else {
-            return Err(Unserved::NoContext);
-        };
-        Ok(context.release(&mut self.space, ticket))
+        Ok(change.make(&mut self.space, context))
     }
 
     /// Releases all tickets of a key that the session's context keeps.
@@ -216,92 +201,6 @@ impl ServedSpace {
             Seat::Direct => Err(Unserved::NoContext),
             Seat::Kept(context) => Ok(context.savepoint()),
         }
-    }
-
-    /// Rolls back to a mark.
-    pub fn rollback_to(
-        &mut self,
-        who: u16,
-        mark: Mark,
-    ) -> Result<Result<(), ContextError>, Unserved>
-        ensures { Asks (context_fault (seat_of who self.old)) (λ r. RunsFor who (rolling_back mark) r self.old self.new) result self.old self.new }
-    {
-        let index = self.index_of(who)?;
-        let Seat::Kept(context) = &mut self.seats[index] else {
-            return Err(Unserved::NoContext);
-        };
-        Ok(context.rollback_to(&mut self.space, mark))
-    }
-
-    /// Ends a statement: releases its tickets.
-    pub fn end_statement(&mut self, who: u16) -> Result<Result<(), ContextError>, Unserved>
-        ensures { Asks (context_fault (seat_of who self.old)) (λ r. RunsFor who ending_statement r self.old self.new) result self.old self.new }
-    {
-        let index = self.index_of(who)?;
-        let Seat::Kept(context) = &mut self.seats[index] else {
-            return Err(Unserved::NoContext);
-        };
-        Ok(context.end_statement(&mut self.space))
-    }
-
-    /// Ends a transaction: releases the tickets of the statement and of the transaction.
-    pub fn end_transaction(&mut self, who: u16) -> Result<Result<(), ContextError>, Unserved>
-        ensures { Asks (context_fault (seat_of who self.old)) (λ r. RunsFor who ending_transaction r self.old self.new) result self.old self.new }
-    {
-        let index = self.index_of(who)?;
-        let Seat::Kept(context) = &mut self.seats[index] else {
-            return Err(Unserved::NoContext);
-        };
-        Ok(context.end_transaction(&mut self.space))
-    }
-
-    /// Releases the explicit tickets.
-    pub fn release_explicit(&mut self, who: u16) -> Result<Result<(), ContextError>, Unserved>
-        ensures { Asks (context_fault (seat_of who self.old)) (λ r. RunsFor who ending_explicit r self.old self.new) result self.old self.new }
-    {
-        let index = self.index_of(who)?;
-        let Seat::Kept(context) = &mut self.seats[index] else {
-            return Err(Unserved::NoContext);
-        };
-        Ok(context.release_explicit(&mut self.space))
-    }
-
-    /// Keeps a ticket for this duration from now on.
-    pub fn set_duration(
-        &mut self,
-        who: u16,
-        ticket: TicketId,
-        duration: Duration,
-    ) -> Result<Result<(), ContextError>, Unserved>
-        ensures { Asks (context_fault (seat_of who self.old)) (λ r. RunsFor who (changing_duration ticket duration) r self.old self.new) result self.old self.new }
-    {
-        let index = self.index_of(who)?;
-        let Seat::Kept(context) = &mut self.seats[index] else {
-            return Err(Unserved::NoContext);
-        };
-        Ok(context.set_duration(ticket, duration))
-    }
-
-    /// Makes all tickets explicit: the context keeps them until they are released.
-    pub fn make_explicit(&mut self, who: u16) -> Result<Result<(), ContextError>, Unserved>
-        ensures { Asks (context_fault (seat_of who self.old)) (λ r. RunsFor who making_explicit r self.old self.new) result self.old self.new }
-    {
-        let index = self.index_of(who)?;
-        let Seat::Kept(context) = &mut self.seats[index] else {
-            return Err(Unserved::NoContext);
-        };
-        Ok(context.make_explicit())
-    }
-
-    /// Makes the explicit tickets, except those of user-level locks, last until the transaction ends.
-    pub fn make_transactional(&mut self, who: u16) -> Result<Result<(), ContextError>, Unserved>
-        ensures { Asks (context_fault (seat_of who self.old)) (λ r. RunsFor who making_transactional r self.old self.new) result self.old self.new }
-    {
-        let index = self.index_of(who)?;
-        let Seat::Kept(context) = &mut self.seats[index] else {
-            return Err(Unserved::NoContext);
-        };
-        Ok(context.make_transactional())
     }
 }
 

@@ -4,15 +4,14 @@ ghost use Rattle.std.specs.Option.{option_and_then, option_copied};
 ghost use Rattle.mdl_calls.specs.Words.{List_held, listed};
 ghost use Rattle.mdl_core.specs.Words.{SpeaksFor, seat_at};
 ghost use Rattle.mdl_core.specs.declared.pending.Pending.{Pending};
-ghost use Rattle.mdl_c_calls.specs.Listings.{IsListWritten, LockTold, duration_told, granted_row, has_settled_wait, how_settled, keyed_book, room_written, settled_sessions, waiting_at, waiting_row, waiting_status};
+ghost use Rattle.mdl_c_parts.specs.Rows.{IsListWritten, room_written};
+ghost use Rattle.mdl_c_calls.specs.Listings.{LockTold, duration_told, granted_row, has_settled_wait, how_settled, keyed_book, settled_sessions, waiting_at, waiting_row};
 ghost use Rattle.mdl_c_calls.specs.Managers.{IsOutside, JoinsFor, session_count_of};
 ghost use Rattle.mdl_space.specs.SettledWaits.{settled_waits};
 
 use super::ServedSpace;
-use crate::rows::{
-    GRANTED, LOST_AS_VICTIM, LOST_BY_KILL, LOST_BY_TIMEOUT, LockRow, PENDING, UNKEPT,
-};
 use mdl_book::{Book, Ticket};
+use mdl_c_parts::{GRANTED, LockRow, UNKEPT, waiting_status};
 use mdl_space::{CoreSpace, Held, LockSpace, Place, Poll, Settled, SpaceError};
 
 impl ServedSpace {
@@ -153,18 +152,6 @@ impl ServedSpace {
             Ok(index) => self.seats[index].duration_of(ticket.number),
             Err(_) => UNKEPT,
         }
-    }
-}
-
-// The status of a waiting ticket whose wait is settled in this way, if it is settled.
-fn waiting_status(how: Option<Settled>) -> u8
-    ensures { result ≡ waiting_status how }
-{
-    match how {
-        Some(Settled::Victim) => LOST_AS_VICTIM,
-        Some(Settled::Timeout) => LOST_BY_TIMEOUT,
-        Some(Settled::Killed) => LOST_BY_KILL,
-        Some(Settled::Granted) | None => PENDING,
     }
 }
 

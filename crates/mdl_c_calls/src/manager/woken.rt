@@ -3,7 +3,8 @@ ghost use Rattle.std.specs.Prelude.{◌≡◌, ◌≤◌, length, slice_set};
 ghost use Rattle.std.specs.Option.{option_map};
 ghost use Rattle.mdl_core.specs.Words.{SpeaksFor, seat_at};
 ghost use Rattle.mdl_core.specs.declared.pending.Pending.{Pending};
-ghost use Rattle.mdl_c_calls.specs.Listings.{IsListWritten, IsNoted, is_newly_settled, newly_settled, noted, settled_number, told_number};
+ghost use Rattle.mdl_c_parts.specs.Rows.{IsListWritten};
+ghost use Rattle.mdl_c_calls.specs.Listings.{IsNoted, is_newly_settled, newly_settled, noted, settled_number, told_number};
 
 use super::ServedSpace;
 use super::lists::write_at;

@@ -4,7 +4,7 @@ use Rattle.mdl_context.specs.Requests.{acquiring}
 use Rattle.mdl_c_calls.specs.ContextCodes.{acquire_code, acquire_told}
 use Rattle.mdl_c_calls.specs.Exports.{Tells}
 use Rattle.mdl_c_calls.specs.Transactions.{Reports, ServesContext}
-use Rattle.mdl_c_calls.proofs.NameLemmas.{unwished, wished}
+use Rattle.mdl_c_calls.proofs.WishLemmas.{unwished, wished}
 use Rattle.mdl_c_calls.proofs.transactions.gaz_one_acquire.Goals as goal
 
 pub returns-in-Ok : goal.returns-in-Ok

@@ -2,13 +2,13 @@
 use Rattle.std.proofs.Common.{ℕ, refl, sym, ◌∙◌}
 use Rattle.mdl_key.specs.declared.mode.Mode.{Mode}
 use Rattle.mdl_key.specs.Keys.{KeyName}
-use Rattle.mdl_c_calls.specs.Codes.{mode_at, no_mode}
-use Rattle.mdl_c_calls.specs.ContextCodes.{kept_code, namespace_at}
+use Rattle.mdl_c_parts.specs.Codes.{mode_at, namespace_at, no_mode}
+use Rattle.mdl_c_parts.specs.Names.{NamedIn}
+use Rattle.mdl_c_calls.specs.ContextCodes.{kept_code}
 use Rattle.mdl_c_calls.specs.Exports.{Replies, Tells}
 use Rattle.mdl_c_calls.specs.Managers.{context_fault}
-use Rattle.mdl_c_calls.specs.Names.{NamedIn}
 use Rattle.mdl_c_calls.specs.Transactions.{TellsKept, Untold}
-use Rattle.mdl_c_calls.proofs.NameLemmas.{given-done, named-done, named-refused}
+use Rattle.mdl_c_parts.proofs.NameLemmas.{given-done, named-done, named-refused}
 use Rattle.mdl_c_calls.proofs.transactions.gaz_one_holds.Goals as goal
 
 pub returns-in-Ok : goal.returns-in-Ok

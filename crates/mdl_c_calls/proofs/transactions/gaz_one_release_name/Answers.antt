@@ -1,9 +1,10 @@
 -- The words of C name a key, whose tickets are given up.
 use Rattle.mdl_context.specs.Releases.{releasing_name}
-use Rattle.mdl_c_calls.specs.ContextCodes.{done_code, namespace_at}
+use Rattle.mdl_c_parts.specs.Codes.{namespace_at}
+use Rattle.mdl_c_calls.specs.ContextCodes.{done_code}
 use Rattle.mdl_c_calls.specs.Exports.{Tells}
 use Rattle.mdl_c_calls.specs.Transactions.{ServesContext, Untold}
-use Rattle.mdl_c_calls.proofs.NameLemmas.{named-done}
+use Rattle.mdl_c_parts.proofs.NameLemmas.{named-done}
 use Rattle.mdl_c_calls.proofs.transactions.gaz_one_release_name.Goals as goal
 
 pub returns-in-Ok : goal.returns-in-Ok

@@ -1,7 +1,7 @@
 -- The manager searches, and C is told what it finds.
 use Rattle.std.proofs.Common.{subst}
 use Rattle.mdl_calls.specs.Words.{Search, searched}
-use Rattle.mdl_c_calls.specs.Exports.{Number}
+use Rattle.mdl_c_parts.specs.Answers.{Number}
 use Rattle.mdl_c_calls.specs.Managers.{Asks, JoinsServed, direct_fault, seat_of}
 use Rattle.mdl_c_calls.proofs.ExportLemmas.{serves-direct}
 use Rattle.mdl_c_calls.proofs.waits.gaz_one_search.Goals as goal

@@ -11,7 +11,7 @@ use Rattle.std.specs.Global.{Global}
 use Rattle.std.proofs.Crossing as heap
 use Rattle.std_alloc.proofs.SendSync.{quiet, lies}
 use Rattle.std_heap.proofs.Global.TheSendSync as allocator
-use Rattle.mdl_c_calls.specs.Handles.{keeps}
+use Rattle.mdl_c_parts.specs.Handles.{keeps}
 use Rattle.mdl_c_calls.specs.contracts.manager.ServedSpace as ServedSpace
 use Rattle.mdl_c_calls.proofs.manager.ServedSpace.TheSendSync.{the_send}
 use Rattle.mdl_c_calls.specs.contracts.handle.Handle.{the_row, the_type}

@@ -7,7 +7,7 @@ use Rattle.mdl_c_calls.specs.contracts.handle.Handle.into_parts as f
 use Rattle.mdl_c_calls.proofs.handle.Handle.into_parts.Statement.{statement}
 use Rattle.mdl_c_calls.proofs.handle.Handle.into_parts.Code as code
 use Rattle.mdl_c_calls.proofs.Boxes.{boxed, a_handle}
-use Rattle.mdl_c_calls.proofs.Walking.{◌≡◌, refl, [], ◌∷◌, ◌++◌, id⊢, ftrue, fsep, WpFn, tables, fact, ‵, raw, prop, ◌⊛◌, ◌$◌, ◌∵◌, !, qed, move, drop, use1, join, split, rewrite, regoal, fsplit, fjoin, suffices, done, whole, sub, agg, stop, fld, no_more, and_then, of_opd, returns, enter, alloc_all, pass_all, free_all, look_at, get, get_in, sets, heard, nothing, type_at, says, Stays, stay_dropped, walk_of, ends_at, Goes-dropped, proved_at, D, B, word, box_typed, box_out, box_in}
+use Rattle.mdl_c_parts.proofs.Walking.{◌≡◌, refl, [], ◌∷◌, ◌++◌, id⊢, ftrue, fsep, WpFn, tables, fact, ‵, raw, prop, ◌⊛◌, ◌$◌, ◌∵◌, !, qed, move, drop, use1, join, split, rewrite, regoal, fsplit, fjoin, suffices, done, whole, sub, agg, stop, fld, no_more, and_then, of_opd, returns, enter, alloc_all, pass_all, free_all, look_at, get, get_in, sets, heard, nothing, type_at, says, Stays, stay_dropped, walk_of, ends_at, Goes-dropped, proved_at, D, B, word, box_typed, box_out, box_in}
 
 -- what there is, where there is something
 there : {X : Type 0} (o : Option X) → is_some o ≡ true → (x : X) × (o ≡ Some x)

@@ -16,7 +16,7 @@ use Rattle.mdl_c_calls.specs.contracts.handle.Handle.none as f
 use Rattle.mdl_c_calls.proofs.handle.Handle.none.Statement.{statement}
 use Rattle.mdl_c_calls.proofs.handle.Handle.none.Code as code
 use Rattle.mdl_c_calls.proofs.Boxes.{boxed}
-use Rattle.mdl_c_calls.proofs.Walking.{refl, List, [], ◌∷◌, ◌++◌, emp, id⊢, ftrue, fsep, WpFn, tables, ‵, raw, prop, ◌⊛◌, ◌$◌, ◌∵◌, !, qed, move, drop, use1, join, split, regoal, fsplit, fjoin, fpack, feq_i, suffices, done, agg, lit, no_more, and_then, returns, enter, alloc_all, pass_all, free_all, look_at, get, sets, plain, nothing, says, Stays, stay_dropped, walk_of, ends_at, Goes-dropped, proved_at}
+use Rattle.mdl_c_parts.proofs.Walking.{refl, List, [], ◌∷◌, ◌++◌, emp, id⊢, ftrue, fsep, WpFn, tables, ‵, raw, prop, ◌⊛◌, ◌$◌, ◌∵◌, !, qed, move, drop, use1, join, split, regoal, fsplit, fjoin, fpack, feq_i, suffices, done, agg, lit, no_more, and_then, returns, enter, alloc_all, pass_all, free_all, look_at, get, sets, plain, nothing, says, Stays, stay_dropped, walk_of, ends_at, Goes-dropped, proved_at}
 
 abbrev stayed : Stays f.ended.signature.params f.ended.kept
 stayed = (stay_dropped (plain (λ _. Heap.the_row)) yes, tt)

@@ -6,7 +6,7 @@ use Rattle.mdl_c_calls.specs.contracts.handle.Handle.of_parts as f
 use Rattle.mdl_c_calls.proofs.handle.Handle.of_parts.Statement.{statement}
 use Rattle.mdl_c_calls.proofs.handle.Handle.of_parts.Code as code
 use Rattle.mdl_c_calls.proofs.Boxes.{boxed, a_part}
-use Rattle.mdl_c_calls.proofs.Walking.{refl, [], ◌∷◌, ◌++◌, emp, id⊢, ftrue, fsep, WpFn, tables, ‵, raw, prop, ◌⊛◌, ◌$◌, ◌∵◌, !, qed, move, drop, use1, join, split, regoal, fsplit, fjoin, suffices, done, whole, sub, agg, stop, fld, no_more, and_then, of_opd, returns, enter, alloc_all, pass_all, free_all, look_at, get, get_in, sets, nothing, says, Stays, stay_dropped, walk_of, ends_at, Goes-dropped, proved_at, D, B, word, box_typed, box_out, box_in}
+use Rattle.mdl_c_parts.proofs.Walking.{refl, [], ◌∷◌, ◌++◌, emp, id⊢, ftrue, fsep, WpFn, tables, ‵, raw, prop, ◌⊛◌, ◌$◌, ◌∵◌, !, qed, move, drop, use1, join, split, regoal, fsplit, fjoin, suffices, done, whole, sub, agg, stop, fld, no_more, and_then, of_opd, returns, enter, alloc_all, pass_all, free_all, look_at, get, get_in, sets, nothing, says, Stays, stay_dropped, walk_of, ends_at, Goes-dropped, proved_at, D, B, word, box_typed, box_out, box_in}
 
 abbrev stayed : Stays f.ended.signature.params f.ended.kept
 stayed = (stay_dropped a_part yes, tt)

@@ -3,8 +3,9 @@ use Rattle.std.proofs.Common.{◌≡◌, ◌∙◌, ℕ, ◌+◌, ◌-◌, min, 
 use Rattle.std.specs.Option.{option_copied, option_map_or}
 use Rattle.std.proofs.lemmas.List.{length-append, length-map}
 use Rattle.mdl_book.specs.declared.book_view.BookView.{BookView}
-use Rattle.mdl_c_calls.specs.Listings.{LockTold, granted_row, keyed_book, lock_rows, room_written, waiting_at, waiting_row}
-use Rattle.mdl_c_calls.proofs.WrittenLemmas.{written-both}
+use Rattle.mdl_c_parts.specs.Rows.{room_written}
+use Rattle.mdl_c_calls.specs.Listings.{LockTold, granted_row, keyed_book, lock_rows, waiting_at, waiting_row}
+use Rattle.mdl_c_parts.proofs.WrittenLemmas.{written-both}
 use Rattle.mdl_c_calls.proofs.manager.ServedSpace.tell_lock.Goals as goal
 
 pub returns-clause-told : goal.returns-clause-told

@@ -1,9 +1,10 @@
 -- Each session whose wait is settled is written behind those before it.
 use Rattle.std.proofs.Common.{◌≡◌, ◌∙◌, ◌+◌, ◌≤◌, [], length, refl, sym, ap, arith}
-use Rattle.mdl_c_calls.specs.Listings.{has_settled_wait, room_written, settled_sessions}
+use Rattle.mdl_c_parts.specs.Rows.{room_written}
+use Rattle.mdl_c_calls.specs.Listings.{has_settled_wait, settled_sessions}
 use Rattle.mdl_c_calls.specs.Managers.{Managed, session_count_of}
 use Rattle.mdl_c_calls.proofs.SettledLemmas.{picked-passed, picked-put, picked_to, settled-none}
-use Rattle.mdl_c_calls.proofs.WrittenLemmas.{written-none}
+use Rattle.mdl_c_parts.proofs.WrittenLemmas.{written-none}
 use Rattle.mdl_c_calls.proofs.manager.ServedSpace.tell_settled.Goals as goal
 use Rattle.mdl_c_calls.proofs.manager.ServedSpace.tell_settled.Goals.{then-has_settled_wait, else-has_settled_wait}
 

@@ -2,7 +2,7 @@
 use Rattle.std.proofs.Common.{◌≡◌, ◌∙◌, [], refl, sym}
 use Rattle.mdl_c_calls.specs.Listings.{newly_settled}
 use Rattle.mdl_c_calls.proofs.SettledLemmas.{newly-none, noted-still}
-use Rattle.mdl_c_calls.proofs.WrittenLemmas.{written-none}
+use Rattle.mdl_c_parts.proofs.WrittenLemmas.{written-none}
 use Rattle.mdl_c_calls.proofs.manager.ServedSpace.tell_woken.Goals as goal
 
 pub returns-then-settled_waits-eq0-clause-told : goal.returns-then-settled_waits-eq0-clause-told

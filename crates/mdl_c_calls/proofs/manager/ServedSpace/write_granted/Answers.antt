@@ -2,9 +2,10 @@
 use Rattle.std.proofs.Common.{◌≡◌, ◌∙◌, ℕ, ◌<◌, length, map, take, drop, ◌++◌, refl, ap, arith}
 use Rattle.std.proofs.lemmas.List.{length-take}
 use Rattle.mdl_book.specs.declared.ticket.Ticket.{Ticket}
-use Rattle.mdl_c_calls.specs.Listings.{duration_told, granted_row, lock_row}
+use Rattle.mdl_c_parts.specs.Rows.{lock_row}
+use Rattle.mdl_c_calls.specs.Listings.{duration_told, granted_row}
 use Rattle.mdl_c_calls.specs.Managers.{Managed}
-use Rattle.mdl_c_calls.proofs.WrittenLemmas.{written-all, written-more}
+use Rattle.mdl_c_parts.proofs.WrittenLemmas.{written-all, written-more}
 use Rattle.mdl_c_calls.proofs.manager.ServedSpace.write_granted.Goals as goal
 
 row : (manager : Managed) (ticket : Ticket) (duration : ℕ) → duration ≡ duration_told manager ticket → lock_row 0 duration ticket ≡ granted_row manager ticket

@@ -4,7 +4,7 @@ use Rattle.std.specs.Prelude.{slice_get}
 use Rattle.std.proofs.lemmas.Option.{get_or_from_slice_get, slice_get_within}
 use Rattle.mdl_c_calls.specs.Listings.{waiting_at, waiting_row}
 use Rattle.mdl_c_calls.specs.Managers.{Managed}
-use Rattle.mdl_c_calls.proofs.WrittenLemmas.{no-more, written-more, written-to}
+use Rattle.mdl_c_parts.proofs.WrittenLemmas.{no-more, written-more, written-to}
 use Rattle.mdl_c_calls.proofs.manager.ServedSpace.write_waiting.Goals as goal
 
 pub loop-at-init : goal.loop-at-init

@@ -1,9 +1,10 @@
 -- Each session whose wait is newly settled is written behind those before it.
 use Rattle.std.proofs.Common.{◌≡◌, ◌∙◌, ◌+◌, ◌≤◌, length, refl, sym, ap, arith}
-use Rattle.mdl_c_calls.specs.Listings.{is_newly_settled, room_written}
+use Rattle.mdl_c_parts.specs.Rows.{room_written}
+use Rattle.mdl_c_calls.specs.Listings.{is_newly_settled}
 use Rattle.mdl_c_calls.specs.Managers.{Managed, session_count_of}
 use Rattle.mdl_c_calls.proofs.SettledLemmas.{picked-passed, picked-put, picked_to}
-use Rattle.mdl_c_calls.proofs.WrittenLemmas.{written-none}
+use Rattle.mdl_c_parts.proofs.WrittenLemmas.{written-none}
 use Rattle.mdl_c_calls.proofs.manager.ServedSpace.write_woken.Goals as goal
 use Rattle.mdl_c_calls.proofs.manager.ServedSpace.write_woken.Goals.{then-is_newly_settled, else-is_newly_settled}
 

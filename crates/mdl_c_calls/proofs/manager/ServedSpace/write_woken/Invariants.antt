@@ -1,6 +1,7 @@
 -- The sessions so far are told, and the manager is as it was.
 use Rattle.std.proofs.Common.{◌≡◌, ◌≤◌, length}
-use Rattle.mdl_c_calls.specs.Listings.{is_newly_settled, room_written}
+use Rattle.mdl_c_parts.specs.Rows.{room_written}
+use Rattle.mdl_c_calls.specs.Listings.{is_newly_settled}
 use Rattle.mdl_c_calls.specs.Managers.{session_count_of}
 use Rattle.mdl_c_calls.proofs.SettledLemmas.{picked_to}
 use Rattle.mdl_c_calls.proofs.manager.ServedSpace.write_woken.Given as goal
