@@ -1,4 +1,12 @@
+pub mod IdleCalls
+pub mod LeaverPins
+pub mod OwnRuns
+pub mod RequestRuns
 pub mod RowCalls
 pub mod RowMemory
 pub mod RowOutcomes
+pub mod RowPins
 pub mod RowTidy
+pub mod RunParts
+pub mod TicketRuns
+pub mod WaitRuns

@@ -6,6 +6,8 @@ pub mod Leavings
 pub mod MemoryLaws
 pub mod Playing
 pub mod Rows
+pub mod SessionPins
 pub mod Sessions
+pub mod StatementPins
 pub mod Statements
 pub mod States

@@ -28,7 +28,8 @@ use Rattle.mdl_context.specs.Tidying.{IsTidy, LetsGo, PinsJustNeeded, is_needed,
 use Rattle.mdl_context.specs.Upgrades.{merged, merging_new}
 use Rattle.mdl_context.specs.Waits.{end_answered, ending_wait, giving_up_wait, wait_won, without_wait}
 use Rattle.mdl_rows.specs.Leavings.{leaving_from}
-use Rattle.mdl_stmt.specs.Attendance.{LetsAllGo, PinsNothing}
+use Rattle.mdl_rows.specs.SessionPins.{PinsNothing}
+use Rattle.mdl_stmt.specs.Attendance.{LetsAllGo}
 use Rattle.mdl_context.proofs.AttendLemmas.{attends-lost, attends-still}
 use Rattle.mdl_context.proofs.TidyLemmas.{debts-run, let-go-after, lets-go}
 

@@ -10,6 +10,7 @@ pub mod ListLemmas
 pub mod LockListLemmas
 pub mod LockTableLemmas
 pub mod OrderLemmas
+pub mod PinLemmas
 pub mod ReleaseLemmas
 pub mod RowLemmas
 pub mod RunLemmas

@@ -5,6 +5,7 @@ use Rattle.mdl_calls.specs.Words.{AreMet, Answer, Call, is_pinned, with_cache}
 use Rattle.mdl_calls.specs.declared.lock_space.LockSpace.{Ghosts}
 use Rattle.mdl_context.specs.Contexts.{Attends, ContextView, LeavesOthers, is_known_place}
 use Rattle.mdl_context.specs.Tidying.{PinsJustNeeded}
+use Rattle.mdl_rows.specs.SessionPins.{PinsNothing}
 use Rattle.mdl_stmt.specs.Players.{PlayerView}
 
 -- a valid capacity of a cache of definitions
@@ -52,10 +53,6 @@ abbrev pub LetsAllGo : {S : Type 0} → Ghosts S → S → ContextView → S →
 LetsAllGo members a before b =
     (place : ℕ) → is_known_place before.known place ≡ true → (is_pinned place (members.own b before.who) ≡ false) ⊎ members.owes a before.who place
 
--- a session pins no place, and owes no reschedule
-abbrev pub PinsNothing : {S : Type 0} → Ghosts S → S → ℕ → Type 0
-PinsNothing members space who = (place : ℕ) → (is_pinned place (members.own space who) ≡ false) × (members.owes space who place → ⊥)
-
--- that is so of a session that pinned only places where its context had something, and owed no reschedule
+-- a session pins nothing afterwards, if it pinned only places where its context had something, and owed no reschedule
 abbrev pub LeavesNoPin : {S : Type 0} → Ghosts S → S → ContextView → S → Type 0
 LeavesNoPin members a before b = PinsJustNeeded members a before → PinsNothing members b before.who

@@ -1,6 +1,6 @@
 //! CREATE TABLE.
 ghost use Rattle.std.specs.Prelude.{◌≡◌, None, IfOk};
-ghost use Rattle.mdl_key.specs.Keys.{name_fault};
+ghost use Rattle.mdl_key.specs.Keys.{utf8_name_fault};
 ghost use Rattle.mdl_key.specs.Refusals.{Refuses};
 ghost use Rattle.mdl_stmt.specs.Attendance.{GoesOn, IsReady};
 ghost use Rattle.mdl_stmt.specs.Gets.{IsPlayed, IsStep, IdleUnlessPlayed};
@@ -15,7 +15,7 @@ use crate::stage::{Creating, Stage};
 use crate::{ErrorNumber, Reply};
 use mdl_context::Request;
 use mdl_defs::{Change, Columns, Definition};
-use mdl_key::{Duration, Key, KeyError, Mode};
+use mdl_key::{Duration, Key, Mode, Utf8NameError};
 use mdl_rows::Ending;
 use mdl_space::{LockSpace, TicketId};
 use std::alloc::Global;
@@ -226,9 +226,9 @@ impl<S: LockSpace> Player<S> {
 }
 
 /// The key of a table's schema. Fails only if memory runs out: a table's schema has a name.
-pub(crate) fn schema_of(alloc: Global, table: &Key) -> Result<Key, KeyError>
+pub(crate) fn schema_of(alloc: Global, table: &Key) -> Result<Key, Utf8NameError>
     ensures made { IfOk result (λ key. key ≡ schema_of table.now) }
-    ensures refused { Refuses (name_fault table.now.schema) KeyError.OutOfMemory result }
+    ensures refused { Refuses (utf8_name_fault table.now.schema) Utf8NameError.OutOfMemory result }
 {
-    Key::schema(alloc, table.schema_name())
+    Key::schema_utf8(alloc, table.schema_name())
 }

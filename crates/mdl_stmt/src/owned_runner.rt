@@ -2,6 +2,7 @@
 ghost use Rattle.std.specs.Prelude.{◌≡◌, None, IfOk, IsSome, is_some, []};
 ghost use Rattle.mdl_calls.specs.Words.{HasNothing, Runs};
 ghost use Rattle.mdl_context.specs.Contexts.{Attends, LeavesOthers};
+ghost use Rattle.mdl_context.specs.Tidying.{PinsJustNeeded};
 ghost use Rattle.mdl_stmt.specs.Attendance.{AttendsWith, IsCapacity, LeavesNoPin, LetsAllGo, cached};
 ghost use Rattle.mdl_stmt.specs.Gets.{ran};
 ghost use Rattle.mdl_rows.specs.Keepings.{going_on_kept, starting_kept};
@@ -68,6 +69,7 @@ impl<S: LockSpace> OwnedRunner<S> {
         ensures run { Runs S.joins space.old (starting_kept statement.now (session_kept self.old)) (ran result (session_kept self.new)) space.new }
         ensures reads { Runs (cached S.LockSpace) (space.old, self.old.cache) (starting_kept statement.now (session_kept self.old)) (ran result (session_kept self.new)) (space.new, self.new.cache) }
         ensures attends { AttendsWith S.LockSpace space.new self.new.context self.new.cache }
+        ensures just { PinsJustNeeded S.LockSpace space.old self.old.context → PinsJustNeeded S.LockSpace space.new self.new.context }
         ensures others { LeavesOthers S.LockSpace self.old.context.who space.old space.new }
         ensures who { self.new.context.who ≡ self.old.context.who }
         ensures capacity { self.new.cache.capacity ≡ self.old.cache.capacity }
@@ -86,6 +88,7 @@ impl<S: LockSpace> OwnedRunner<S> {
         ensures run { Runs S.joins space.old (going_on_kept (session_kept self.old)) (ran result (session_kept self.new)) space.new }
         ensures reads { Runs (cached S.LockSpace) (space.old, self.old.cache) (going_on_kept (session_kept self.old)) (ran result (session_kept self.new)) (space.new, self.new.cache) }
         ensures attends { AttendsWith S.LockSpace space.new self.new.context self.new.cache }
+        ensures just { PinsJustNeeded S.LockSpace space.old self.old.context → PinsJustNeeded S.LockSpace space.new self.new.context }
         ensures others { LeavesOthers S.LockSpace self.old.context.who space.old space.new }
         ensures who { self.new.context.who ≡ self.old.context.who }
         ensures capacity { self.new.cache.capacity ≡ self.old.cache.capacity }

@@ -2,6 +2,7 @@
 ghost use Rattle.std.specs.Prelude.{◌≡◌, None, IfOk, IsSome, IfSome, is_some, []};
 ghost use Rattle.mdl_calls.specs.Words.{HasNothing, Runs};
 ghost use Rattle.mdl_context.specs.Contexts.{Attends, LeavesOthers};
+ghost use Rattle.mdl_context.specs.Tidying.{PinsJustNeeded};
 ghost use Rattle.mdl_stmt.specs.Attendance.{AttendsWith, GoesOn, IsCapacity, IsReady, LeavesNoPin, LetsAllGo, cached};
 ghost use Rattle.mdl_rows.specs.Endings.{closing};
 ghost use Rattle.mdl_stmt.specs.Gets.{ran};
@@ -78,6 +79,7 @@ impl<'s, S: LockSpace> Runner<'s, S> {
         ensures run { Runs S.joins space.old (starting statement.now (session_of self.old)) (ran result (session_of self.new)) space.new }
         ensures reads { Runs (cached S.LockSpace) (space.old, self.old.cache) (starting statement.now (session_of self.old)) (ran result (session_of self.new)) (space.new, self.new.cache) }
         ensures attends { AttendsWith S.LockSpace space.new self.new.context self.new.cache }
+        ensures just { PinsJustNeeded S.LockSpace space.old self.old.context → PinsJustNeeded S.LockSpace space.new self.new.context }
         ensures others { LeavesOthers S.LockSpace self.old.context.who space.old space.new }
         ensures who { self.new.context.who ≡ self.old.context.who }
         ensures capacity { self.new.cache.capacity ≡ self.old.cache.capacity }
@@ -99,6 +101,7 @@ impl<'s, S: LockSpace> Runner<'s, S> {
         ensures run { Runs S.joins space.old (going_on (session_of self.old)) (ran result (session_of self.new)) space.new }
         ensures reads { Runs (cached S.LockSpace) (space.old, self.old.cache) (going_on (session_of self.old)) (ran result (session_of self.new)) (space.new, self.new.cache) }
         ensures attends { AttendsWith S.LockSpace space.new self.new.context self.new.cache }
+        ensures just { PinsJustNeeded S.LockSpace space.old self.old.context → PinsJustNeeded S.LockSpace space.new self.new.context }
         ensures others { LeavesOthers S.LockSpace self.old.context.who space.old space.new }
         ensures who { self.new.context.who ≡ self.old.context.who }
         ensures capacity { self.new.cache.capacity ≡ self.old.cache.capacity }

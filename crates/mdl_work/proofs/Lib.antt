@@ -1,2 +1,3 @@
 pub mod PauseLemmas
 pub mod WorkLemmas
+pub mod WorkPins

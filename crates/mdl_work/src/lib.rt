@@ -21,10 +21,12 @@
 #![tactic(auto)]
 
 mod gate;
+mod pins;
 mod waiting;
 mod worker;
 mod working;
 
 pub use gate::{Gate, OpenGate};
+pub use pins::work_leaves_no_pin;
 pub use worker::MOST_WAITS;
 pub use working::{work, work_lines};

@@ -2,6 +2,7 @@
 ghost use Rattle.std.specs.Prelude.{◌≡◌, map, None, Some, IfOk, OnErr};
 ghost use Rattle.mdl_calls.specs.Words.{HasNothing, Runs};
 ghost use Rattle.mdl_context.specs.Contexts.{LeavesOthers};
+ghost use Rattle.mdl_rows.specs.SessionPins.{PinsNothing};
 ghost use Rattle.mdl_stmt.specs.Attendance.{IsCapacity, cached};
 ghost use Rattle.mdl_work.specs.Paces.{answers_in};
 ghost use Rattle.mdl_work.specs.Works.{RunsFromEmpty, lines_of_session, newcomer, working_off};
@@ -40,6 +41,7 @@ pub fn work<S: LockSpace, G: Gate>(
     ensures reads { RunsFromEmpty (cached S.LockSpace) cache space.old (working_off patience (lines_of_session who script.now) (newcomer who)) (answers_in result) space.new }
     ensures lines { IfOk result (λ answers. map (λ answer. answer.0) answers.items ≡ map (λ line. line.number) (lines_of_session who script.now)) }
     ensures nothing { HasNothing (S.own space.new who) }
+    ensures pins { PinsNothing S.LockSpace space.old who → PinsNothing S.LockSpace space.new who }
     ensures speaks { S.speaks_for space.new who }
     ensures others { LeavesOthers S.LockSpace who space.old space.new }
 {
@@ -64,6 +66,7 @@ pub fn work_lines<S: LockSpace, G: Gate>(
     ensures reads { RunsFromEmpty (cached S.LockSpace) cache space.old (working_off patience (lines_of_session who lines.now) (newcomer who)) (answers_in result) space.new }
     ensures lines { IfOk result (λ answers. map (λ answer. answer.0) answers.items ≡ map (λ line. line.number) (lines_of_session who lines.now)) }
     ensures nothing { HasNothing (S.own space.new who) }
+    ensures pins { PinsNothing S.LockSpace space.old who → PinsNothing S.LockSpace space.new who }
     ensures speaks { S.speaks_for space.new who }
     ensures others { LeavesOthers S.LockSpace who space.old space.new }
 {

@@ -1,5 +1,5 @@
 -- The wait goes on, and then the statement as the wait stands.
-use Rattle.std.proofs.Common.{◌≡◌, Bool, IsSome, ap, rules, sym, ◌∙◌, subst}
+use Rattle.std.proofs.Common.{◌≡◌, Bool, IsSome, Ok, ap, rules, sym, ◌∙◌, subst}
 use Rattle.mdl_calls.specs.Words.{Runs}
 use Rattle.mdl_rows.specs.Endings.{Waits_on, ending_of_loss}
 use Rattle.mdl_stmt.specs.Attendance.{cached}
@@ -9,7 +9,10 @@ use Rattle.mdl_stmt.specs.Players.{RunnerView, state_of}
 use Rattle.mdl_stmt.specs.Stages.{session_of}
 use Rattle.mdl_calls.proofs.CachedRuns.{run-plain}
 use Rattle.mdl_stmt.proofs.CachedLemmas.{resumes}
+use Rattle.mdl_stmt.specs.declared.out_of_memory.OutOfMemory.{OutOfMemory}
+use Rattle.mdl_stmt.specs.declared.progress.Progress.TheVariants.{Pending}
 use Rattle.mdl_stmt.proofs.EndLemmas.{ends-lost, ends-refused, goes-on-with, waits-still}
+use Rattle.mdl_stmt.proofs.PinLemmas.{goes-on-just}
 use Rattle.mdl_stmt.proofs.runner.Runner.go_on.Goals as goal
 
 pub returns-in-Ok-Waiting-clause-reads : goal.returns-in-Ok-Waiting-clause-reads
@@ -60,3 +63,24 @@ returns-in-Ok-Lost-clause-run g c =
 pub returns-in-Err-clause-run : goal.returns-in-Err-clause-run
 returns-in-Err-clause-run g c =
     run-plain g.S.LockSpace.joins g.S.LockSpace.uses_cache (going_on (session_of c.args.self.now)) (c.args.space.now, c.args.self.now.cache) _ _ (returns-in-Err-clause-reads g c)
+
+pub returns-in-Ok-Waiting-clause-just : goal.returns-in-Ok-Waiting-clause-just
+returns-in-Ok-Waiting-clause-just g c =
+    let after : RunnerView = record { context = c.resume.new.self; state = state_of c.self-inside.inside.0.0.explicit c.self-inside.inside.0.0.is_open c.self-inside.inside.0.0.has_written c.self-inside.inside.0.0.savepoints; work = c.self-inside.inside.0.1.0; cache = c.self-inside.inside.0.0.cache } in
+    goes-on-just {E = OutOfMemory} g.S.LockSpace g.met.S.LockSpace.laws c.args.space.now c.resume.new.space c.args.self.now after (Ok Pending) c.requires.attends.attends c.requires.waits
+    (returns-in-Ok-Waiting-clause-run g c)
+
+pub returns-in-Ok-Acquired-clause-just : goal.returns-in-Ok-Acquired-clause-just
+returns-in-Ok-Acquired-clause-just g c =
+    goes-on-just g.S.LockSpace g.met.S.LockSpace.laws c.args.space.now c.go_on_with.new.space c.args.self.now c.go_on_with.new.self c.go_on_with.result c.requires.attends.attends c.requires.waits
+    (returns-in-Ok-Acquired-clause-run g c)
+
+pub returns-in-Ok-Lost-clause-just : goal.returns-in-Ok-Lost-clause-just
+returns-in-Ok-Lost-clause-just g c =
+    goes-on-just g.S.LockSpace g.met.S.LockSpace.laws c.args.space.now c.end_with.new.space c.args.self.now c.end_with.new.self c.end_with.result c.requires.attends.attends c.requires.waits
+    (returns-in-Ok-Lost-clause-run g c)
+
+pub returns-in-Err-clause-just : goal.returns-in-Err-clause-just
+returns-in-Err-clause-just g c =
+    goes-on-just g.S.LockSpace g.met.S.LockSpace.laws c.args.space.now c.end_with-in-Err.new.space c.args.self.now c.end_with-in-Err.new.self c.end_with-in-Err.result c.requires.attends.attends
+    c.requires.waits (returns-in-Err-clause-run g c)

@@ -1,6 +1,6 @@
 -- By its lemma.
-use Rattle.mdl_work_laws.proofs.RowPins.{leave-no-pin}
-use Rattle.mdl_work_laws.proofs.pins.statements_leave_no_pin.Goals as goal
+use Rattle.mdl_rows.proofs.RowPins.{leave-no-pin}
+use Rattle.mdl_rows.proofs.pins.statements_leave_no_pin.Goals as goal
 
 pub returns : goal.returns
 returns g c =

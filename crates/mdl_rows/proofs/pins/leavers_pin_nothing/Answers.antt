@@ -1,6 +1,6 @@
 -- By its lemma.
-use Rattle.mdl_work_laws.proofs.WorkPins.{leavers-pin-nothing}
-use Rattle.mdl_work_laws.proofs.pins.leavers_pin_nothing.Goals as goal
+use Rattle.mdl_rows.proofs.LeaverPins.{leavers-pin-nothing}
+use Rattle.mdl_rows.proofs.pins.leavers_pin_nothing.Goals as goal
 
 pub returns : goal.returns
 returns g c =

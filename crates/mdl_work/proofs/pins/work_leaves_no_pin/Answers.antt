@@ -1,6 +1,6 @@
 -- By its lemma.
-use Rattle.mdl_work_laws.proofs.WorkPins.{work-leaves-no-pin}
-use Rattle.mdl_work_laws.proofs.pins.work_leaves_no_pin.Goals as goal
+use Rattle.mdl_work.proofs.WorkPins.{work-leaves-no-pin}
+use Rattle.mdl_work.proofs.pins.work_leaves_no_pin.Goals as goal
 
 pub returns : goal.returns
 returns g c =

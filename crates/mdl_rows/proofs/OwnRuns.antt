@@ -26,7 +26,7 @@ use Rattle.mdl_context.specs.Upgrades as upgrades
 use Rattle.mdl_context.specs.Upgrades.{own_merged}
 use Rattle.mdl_context.proofs.AttendLemmas.{known-still}
 use Rattle.mdl_context.proofs.GainLemmas.{began-and-ended}
-use Rattle.mdl_work_laws.proofs.RunParts.{parted}
+use Rattle.mdl_rows.proofs.RunParts.{parted}
 use Rattle.mdl_context.proofs.PinLemmas.{unpins}
 use Rattle.mdl_context.proofs.SeekLemmas.{won-given_up}
 

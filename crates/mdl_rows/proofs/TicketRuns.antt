@@ -35,9 +35,9 @@ use Rattle.mdl_context.proofs.ServingLemmas.{serves-left}
 use Rattle.mdl_context.proofs.TidyLemmas.{attends-tidied}
 use Rattle.mdl_context.proofs.UpgradeLemmas.{attends-in_mode, attends-parted, attends-to-upgrade, attends-united, has-gained, kept-number, may-rise}
 use Rattle.mdl_context.proofs.WhoLemmas.{of_downgrading, of_giving_up, of_releasing, of_upgrading}
-use Rattle.mdl_work_laws.proofs.OwnRuns.{Has, got-waiting_at, has-first, has-merging, has-release, has-releasing_all, released}
-use Rattle.mdl_work_laws.proofs.RequestRuns.{Stays}
-use Rattle.mdl_work_laws.proofs.RunParts.{parted}
+use Rattle.mdl_rows.proofs.OwnRuns.{Has, got-waiting_at, has-first, has-merging, has-release, has-releasing_all, released}
+use Rattle.mdl_rows.proofs.RequestRuns.{Stays}
+use Rattle.mdl_rows.proofs.RunParts.{parted}
 
 -- ---- tickets that were released one after the other
 

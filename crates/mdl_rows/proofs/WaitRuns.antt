@@ -31,10 +31,10 @@ use Rattle.mdl_context.proofs.PinLemmas.{pins-same}
 use Rattle.mdl_context.proofs.ServingLemmas.{searched-waits, serves-ending, waits-there}
 use Rattle.mdl_context.proofs.StayTidyLemmas.{awaited-searched}
 use Rattle.mdl_context.proofs.WhoLemmas.{of_giving_up_wait, of_resuming}
-use Rattle.mdl_work_laws.proofs.OwnRuns.{ends-so, has-abandoning, has-first, has-seeking, times-out}
-use Rattle.mdl_work_laws.proofs.RequestRuns.{Stays}
-use Rattle.mdl_work_laws.proofs.RunParts.{parted}
-use Rattle.mdl_work_laws.proofs.TicketRuns.{attends-given, attends-merged, attends-tidying}
+use Rattle.mdl_rows.proofs.OwnRuns.{ends-so, has-abandoning, has-first, has-seeking, times-out}
+use Rattle.mdl_rows.proofs.RequestRuns.{Stays}
+use Rattle.mdl_rows.proofs.RunParts.{parted}
+use Rattle.mdl_rows.proofs.TicketRuns.{attends-given, attends-merged, attends-tidying}
 
 -- there is no wait after a call about it, unless it isn't settled
 abbrev pub IsOver : Outcome Resume → Type 0

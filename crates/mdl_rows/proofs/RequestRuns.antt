@@ -35,8 +35,8 @@ use Rattle.mdl_context.proofs.PlaceLemmas.{equal, suffices-at}
 use Rattle.mdl_context.proofs.ServingLemmas.{earliest-held}
 use Rattle.mdl_context.proofs.StayTidyLemmas.{tidy-finding, tidy-trying_found}
 use Rattle.mdl_context.proofs.TidyLemmas.{debts-run}
-use Rattle.mdl_work_laws.proofs.OwnRuns.{Has, got-gaining, has-first, tries-gaining}
-use Rattle.mdl_work_laws.proofs.RunParts.{parted}
+use Rattle.mdl_rows.proofs.OwnRuns.{Has, got-gaining, has-first, tries-gaining}
+use Rattle.mdl_rows.proofs.RunParts.{parted}
 
 -- a context goes on to attend to its session, and leaves no pin behind
 pub record Stays {S : Type 0} (members : Ghosts S) (a : S) (before : ContextView) (b : S) (after : ContextView) : Type 0 where

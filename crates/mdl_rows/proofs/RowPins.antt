@@ -45,12 +45,12 @@ use Rattle.mdl_rows.specs.Rows as row
 use Rattle.mdl_rows.specs.Sessions.{Left, Session}
 use Rattle.mdl_rows.specs.States.{half_lock, without_read_lock}
 use Rattle.mdl_rows.specs.Statements.{row_of}
-use Rattle.mdl_work_laws.specs.StatementPins.{HasNoSparePin, IsReadyForMore, LeavesNoSparePin, StatementsLeaveNoPin}
-use Rattle.mdl_work_laws.proofs.IdleCalls.{IsIdle, IsIdleOrWaits, idle-acquiring, idle-downgrading, idle-giving_up, idle-releasing, idle-trying, idle-upgrading}
-use Rattle.mdl_work_laws.proofs.RequestRuns.{Stays, stays-acquiring, stays-trying}
-use Rattle.mdl_work_laws.proofs.RunParts.{parted}
-use Rattle.mdl_work_laws.proofs.TicketRuns.{stays-downgrading, stays-giving_up, stays-releasing, stays-upgrading}
-use Rattle.mdl_work_laws.proofs.WaitRuns.{IsOver, stays-giving_up_wait, stays-resuming}
+use Rattle.mdl_rows.specs.StatementPins.{HasNoSparePin, IsReadyForMore, LeavesNoSparePin, StatementsLeaveNoPin}
+use Rattle.mdl_rows.proofs.IdleCalls.{IsIdle, IsIdleOrWaits, idle-acquiring, idle-downgrading, idle-giving_up, idle-releasing, idle-trying, idle-upgrading}
+use Rattle.mdl_rows.proofs.RequestRuns.{Stays, stays-acquiring, stays-trying}
+use Rattle.mdl_rows.proofs.RunParts.{parted}
+use Rattle.mdl_rows.proofs.TicketRuns.{stays-downgrading, stays-giving_up, stays-releasing, stays-upgrading}
+use Rattle.mdl_rows.proofs.WaitRuns.{IsOver, stays-giving_up_wait, stays-resuming}
 
 -- over a space, for the session of a number
 module _ {S : Type 0} (members : Ghosts S) (laws : LawsOf members) (number : ℕ) where

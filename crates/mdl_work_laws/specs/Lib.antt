@@ -1,2 +1,0 @@
-pub mod SessionPins
-pub mod StatementPins
