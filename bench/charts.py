@@ -74,6 +74,8 @@ class Chart:
 
 TICKETS = tuple(Bar(it, colour, f"{it} held" if at else "1 ticket held") for at, (it, colour) in enumerate(zip(LAYOUTS["calls"].columns, "acde")))
 THREADS = tuple(Bar(it, colour, it) for it, colour in zip(LAYOUTS["c"].columns, "acd"))
+SESSIONS = tuple(Bar(it, colour, name) for it, colour, name in zip(LAYOUTS["sessions"].columns, "ac", ("64 sessions", "1,024 sessions")))
+WAITERS = tuple(Bar(it, colour, it) for it, colour in zip(LAYOUTS["searches"].columns, "acd"))
 SCRIPTS = (
     Panel("lines a second", (Bar("lines a second", "a"),), share=1.5),
     Panel("peak memory, times the script", (Bar("times the script", "a"),)),
@@ -112,6 +114,8 @@ CHARTS = {
         ),
     ),
     "c": Chart("Calls from C", "Nanoseconds, by the threads that call", (Panel("nanoseconds", THREADS, is_log=True),)),
+    "sessions": Chart("What sessions cost", "Memory of a new space of 256 places, by its sessions", (Panel("kB", SESSIONS),)),
+    "searches": Chart("A search for a deadlock", "Instructions, by those who wait", (Panel("instructions", WAITERS, is_log=True),)),
 }
 
 

@@ -90,6 +90,8 @@ LAYOUTS = {
     "parts": Layout(("ours", "model")),
     "mdlview": Layout(("rows", "KB of rows", "ms", "MB", "grep, ms")),
     "c": Layout(("1 thread", "2 threads", "4 threads")),
+    "sessions": Layout(("64 sessions, kB", "1,024, kB")),
+    "searches": Layout(("2 waiters", "63 or 64", "1,000 or 1,023")),
 }
 
 # What a row of a run, which has nanoseconds or kibibytes or a count, is divided by for a unit. The other units are those of the rows.
