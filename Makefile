@@ -24,14 +24,17 @@ ARCHIVES = crates/mdl_c/out/libmdl_c.a crates/mdl_text/out/libmdl_text.a
 # programs to test.
 SECONDS = 60
 
+# Where `make pages` puts the example scripts as pages.
+PAGES = dist/pages
+
 # This file exists once `make run` has printed answers.
 FIRST_RUN = crates/mdlsim/out/first_run
 
-.PHONY: help run try script test layout docs bench examples commands c fuzz growths race wrong build view install archives dist dist-check \
+.PHONY: help run try script test layout docs bench examples commands c fuzz pages growths race wrong build view install archives dist dist-check \
     dist-libraries dist-libraries-check clean kit timers
 
 help:
-	@echo 'All need the Rattle kit, except fuzz, dist-check and clean.'
+	@echo 'All need the Rattle kit, except fuzz, pages, dist-check and clean.'
 	@echo
 	@echo 'make run [SCRIPT=FILE]     proves and builds mdlsim, and prints its answers to NAME.replay, NAME.run, NAME.lock or NAME.scoped.lock'
 	@echo 'make try [SCRIPT=FILE]     prints the answers without the proof, in one to four minutes; up to 1 MB of them, and 60 seconds of play'
@@ -48,6 +51,7 @@ help:
 	@echo 'make commands              checks what the proved programs do by their command lines'
 	@echo 'make c                     builds programs of C, C++, Rust, Python and Go over the libraries for C, proved, and compares what they print'
 	@echo 'make fuzz [SECONDS=60]     gives random scripts, rows and noise to the programs that were built last, and checks each run'
+	@echo 'make pages [MDLVIEW=PATH]  prints the example scripts as pages for a browser, into dist/pages/'
 	@echo 'make growths               refuses each growth of some short lives in turn'
 	@echo 'make race                  lets threads race until a million waits are settled'
 	@echo 'make wrong [CRATE=NAME]    has the prover refuse the mutants, of all crates or of one'
@@ -122,6 +126,10 @@ fuzz:
 	@python3 fuzz/views.py --seconds $(SECONDS) $(if $(SEED),--seed $(SEED)) $(or $(MDLVIEW),$(VIEW))
 	@python3 fuzz/timelines.py --seconds $(SECONDS) $(if $(SEED),--seed $(SEED)) --mdlsim $(or $(MDLSIM),$(PROGRAM)) $(or $(MDLVIEW),$(VIEW))
 	@python3 fuzz/noise.py --seconds $(SECONDS) $(if $(SEED),--seed $(SEED)) --mdlsim $(or $(MDLSIM),$(PROGRAM)) $(or $(MDLVIEW),$(VIEW))
+
+# Prints the scripts of examples/ as pages, with an index of them, by the mdlview that was built last, or that MDLVIEW names.
+pages:
+	@sh make/pages.sh "$(or $(MDLVIEW),$(VIEW))" "$(PAGES)"
 
 # Refuses each allocation of some short sequences of calls in turn: they have to succeed all the same. Runs on threads have to report a refused one.
 growths: kit

@@ -63,4 +63,7 @@ views sessions waits
 views quoted graph
 frees_all commands/view/settled.rows commands/view/settled.locks.json mdlview locks --json
 frees_all examples/alter_both_ways.replay examples/alter_both_ways.svg mdlview timeline --script
+# commands/view_pages.py checks this page.
+crates/mdlview/out/mdlview timeline --script --html < examples/alter_both_ways.replay > "$made/page"
+frees_all examples/alter_both_ways.replay "$made/page" mdlview timeline --script --html
 echo "$runs runs of the programs freed all their memory"

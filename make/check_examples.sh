@@ -12,12 +12,12 @@ export LC_ALL
 made=$(mktemp -d)
 trap 'rm -rf "$made"' EXIT
 
-# The library crates that show an example: those with a src/lib.rt that are no tests. mdl_steps_laws, mdl_session_laws, mdl_visits_laws,
-# mdl_view_text_laws and mdl_work_laws have nothing to call: their functions only state laws. mdl_c and mdl_text are called from C, as in examples/c,
-# and with mdl_c the functions of mdl_c_calls.
+# The library crates that show an example: those with a src/lib.rt that are no tests. mdl_steps_laws, mdl_session_laws, mdl_visits_laws and
+# mdl_view_text_laws have nothing to call: their functions only state laws. mdl_c and mdl_text are called from C, as in examples/c, and with mdl_c
+# the functions of mdl_c_calls and mdl_c_parts.
 libraries() {
     ls crates/*/src/lib.rt | cut -d/ -f2 | grep -v -x -e '.*trials' -e 'mdl_steps_laws' -e 'mdl_session_laws' -e 'mdl_visits_laws' \
-        -e 'mdl_view_text_laws' -e 'mdl_work_laws' -e 'mdl_c' -e 'mdl_c_calls' -e 'mdl_text'
+        -e 'mdl_view_text_laws' -e 'mdl_c' -e 'mdl_c_calls' -e 'mdl_c_parts' -e 'mdl_text'
 }
 
 # The file of examples that names a crate in its first line.

@@ -47,8 +47,8 @@ set_log() {
 }
 
 set_program mdlsim && set_program mdlview \
-    && set_number crates/mdl_c/include/gaz_codes.h 'GAZ_VERSION ' && set_number crates/mdl_c_calls/src/codes.rt 'VERSION: u32 = ' \
-    && set_number crates/mdl_c_calls/specs/Codes.antt 'library_version = ' && set_number examples/rust/src/raw.rs 'VERSION: u32 = ' \
+    && set_number crates/mdl_c/include/gaz_codes.h 'GAZ_VERSION ' && set_number crates/mdl_c_parts/src/codes.rt 'VERSION: u32 = ' \
+    && set_number crates/mdl_c_parts/specs/Codes.antt 'library_version = ' && set_number examples/rust/src/raw.rs 'VERSION: u32 = ' \
     && set_number examples/python/gaz_locks.py 'VERSION = ' && replace CITATION.cff "version: $old" "version: $new" \
     && replace examples/rust/Cargo.toml "version = \"$old\"" "version = \"$new\"" && replace examples/rust/Cargo.lock "version = \"$old\"" "version = \"$new\"" \
     && set_log && echo "$new" > VERSION || exit 1

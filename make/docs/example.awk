@@ -1,5 +1,5 @@
 # Prints the section at the head of a library crate that shows its example: the lines of the example's file, without what makes them a test if they are one.
-# Of several tests each is a block. The comment above a later one introduces it, and its block leaves out the imports that only other blocks name.
+# Of several tests each is a block, and leaves out the imports that only other blocks name. The comment above a later one introduces it.
 # Usage: awk -f example.awk crates/mdl_space_trials/src/examples/NAME.rt
 
 # Prints a line of the section.
@@ -12,7 +12,7 @@ function has(block, name) {
     return block ~ ("(^|[^A-Za-z0-9_])" name "([^A-Za-z0-9_]|$)")
 }
 
-# Prints an import for a later block, without the names that only other blocks have.
+# Prints an import for a block, without the names that only other blocks have.
 function put_import(line, block,    parts, names, count, at, kept, left) {
     if (!match(line, /\{.*\}/)) {
         put(line)
@@ -63,9 +63,16 @@ blocks {
     imports[++count] = $0
 }
 {
-    put($0)
+    head[++heads] = $0
 }
 END {
+    for (at = 1; at <= heads; at += 1) {
+        if (head[at] ~ /^use /) {
+            put_import(head[at], lines[1])
+        } else {
+            put(head[at])
+        }
+    }
     for (block = 1; block <= blocks; block += 1) {
         if (block > 1) {
             sub(/\.\n$/, ":\n", introductions[block])

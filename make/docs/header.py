@@ -195,7 +195,7 @@ def differing(what, declared, own):
 
 
 HEADERS = [
-    Headers(["mdl_c", "mdl_c_calls"], "GAZ_", {it: f"gaz_{it}" for it in ("mode", "duration", "namespace", "status", "code")}),
+    Headers(["mdl_c", "mdl_c_calls", "mdl_c_parts"], "GAZ_", {it: f"gaz_{it}" for it in ("mode", "duration", "namespace", "status", "code")}),
     Headers(["mdl_text"], "GAZ_TEXT_", {it: f"gaz_text_{it}" for it in ("kind", "code")}),
 ]
 

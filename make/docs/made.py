@@ -49,7 +49,10 @@ STATEMENTS = {
 }
 
 # The crates whose functions return a number that may say that memory ran out, with what that is called.
-NUMBERS = {"mdl_c_calls": "*code*", "mdl_text": "*code*", "mdl_program": "*status*", "mdlsim": "*status*", "mdlview": "*status*"}
+NUMBERS = {"mdl_c_parts": "*code*", "mdl_c_calls": "*code*", "mdl_text": "*code*", "mdl_program": "*status*", "mdlsim": "*status*", "mdlview": "*status*"}
+
+# The type of such a number.
+TYPES = {"*code*": "u32", "*status*": "u8"}
 
 # A file of definitions that only gathers others has no other lines than these.
 GATHERS = re.compile(r"--|$|(?:unfoldable )?pub use ")
@@ -192,8 +195,9 @@ def calls(crate):
 
 def lack_of(call, rules):
     """Returns whether a function may lack memory, as the table has it."""
-    if re.search(r"-> u(?:8|32)\b", call.head) and call.crate in NUMBERS:
-        return NUMBERS[call.crate]
+    number = NUMBERS.get(call.crate)
+    if number and re.search(rf"-> (?:Result<[^;{{]*?, )?{TYPES[number]}\b", call.head):
+        return number
     return "yes" if rules.may_lack(call.name, call.head) else ""
 
 

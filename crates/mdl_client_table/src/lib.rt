@@ -7,7 +7,7 @@
 //! # Example
 //!
 //! ```
-//! use mdl_client_table::{Form, read_table};
+//! use mdl_client_table::read_table;
 //!
 //! let alloc = rt.alloc();
 //! let text = b"mysql> SELECT ID, USER FROM information_schema.PROCESSLIST;

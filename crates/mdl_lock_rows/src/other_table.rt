@@ -16,7 +16,7 @@ pub enum OtherTable {
     #[error("rows of INNODB_TRX: it has no metadata locks")]
     InnodbTrx,
     /// `information_schema.METADATA_LOCK_INFO` of MariaDB, alone or with a process list.
-    #[error("rows of METADATA_LOCK_INFO: it has the locks that are held, and not who waits")]
+    #[error("rows of METADATA_LOCK_INFO:\nit has the locks that are held, and not who waits")]
     MetadataLockInfo,
     /// `SHOW PROCESSLIST`, or a table with its columns.
     #[error("rows of a process list: it has no locks")]
