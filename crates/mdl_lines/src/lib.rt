@@ -10,8 +10,7 @@
 //!
 //! ```
 //! use mdl_lines::{
-//!     Fault, LineError, first_words, is_comment, line_at, lines_of, push, push_number, report,
-//!     session_of,
+//!     Fault, LineError, first_words, is_comment, line_at, lines_of, push, push_number, report, session_of,
 //! };
 //!
 //! assert!(rt; is_comment(b"# session 3 is done") == Ok(true));

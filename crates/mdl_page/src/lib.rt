@@ -15,8 +15,7 @@
 //!     why: Vec::from_slice(alloc, b"{\"waits\":0}")?,
 //! })?;
 //! let text = page(alloc, b"<svg></svg>", b"# A script", &lines)?;
-//! let data =
-//!     b"[{\"line\":3,\"locks\":{\"locks\":[]},\"waits\":{\"waits\":[]},\"why\":{\"waits\":0}}]";
+//! let data = b"[{\"line\":3,\"locks\":{\"locks\":[]},\"waits\":{\"waits\":[]},\"why\":{\"waits\":0}}]";
 //! assert!(rt; text.starts_with(b"<!DOCTYPE html>"));
 //! assert!(rt;
 //!     text.windows(data.len())
