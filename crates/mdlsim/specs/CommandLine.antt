@@ -63,7 +63,7 @@ AskForVersion words = words ≡ codes "--version" ∷ []
 
 -- the line that is printed for the version
 abbrev pub version_line : List ℕ
-version_line = codes "mdlsim 0.6.0-dev" ++ 10 ∷ []
+version_line = codes "mdlsim 0.6.0" ++ 10 ∷ []
 
 -- what a parse reads of the flag `--scoped`, and of `lock`, which has it
 abbrev pub scoped_flag : Rule

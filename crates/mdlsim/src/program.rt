@@ -18,7 +18,7 @@ use std::sync::Wait;
 use std::thread::Threads;
 
 // What `--version` prints.
-const VERSION_LINE: &[u8] = b"mdlsim 0.6.0-dev\n";
+const VERSION_LINE: &[u8] = b"mdlsim 0.6.0\n";
 
 /// Does what the words of a command line ask for, and returns the exit status: 2 if they ask neither for a run nor for the
 /// version, and 3 if memory runs out while they are read.
