@@ -23,6 +23,9 @@ VERSION = HERE.with_name("VERSION").read_text().strip()
 WAITS = "1 CREATE TABLE t x\n1 BEGIN\n1 SELECT t\n2 DROP TABLE t\n1 COMMIT\n"
 ANSWERS = "1 1 OK\n2 1 OK\n3 1 OK test.t@1(x)\n4 2 WAIT TABLE test.t X\n5 1 OK\n4 2 OK\n"
 ALONE = "1 CREATE TABLE t x\n1 SELECT t\n"
+EXPLAINED = "line 1, session 1:\n  X of the user-level lock, until the session releases it; the reply is 1\n"
+TIMED_OUT = "line 3, session 1:\n  nothing is locked; if the session waits, its wait times out\n"
+NINE = " ".join(f"t{it}" for it in range(9))
 FINALS = "1 1 OK\n2 1 OK test.t@1(x)\nFINAL SCHEMA test@1\nFINAL TABLE test.t@1(x)\n"
 TAKEN = [
     *((f"lock{words}", "1 SR\n", 0, "1 GRANTED SR\n", "") for words in ("", " --")),
@@ -39,6 +42,18 @@ TAKEN = [
     # The other examples of docs/mdlsim.1.
     ("lock", "1 SRO\n2 SW\n1 RELEASE\n", 0, "1 GRANTED SRO\n2 WAITS SW\n1 RELEASED SRO\n2 GRANTED SW\n", ""),
     ("replay", "1 BEGIN\n0 BEGIN\n", 1, "", "line 2: BadSession\n"),
+    # A line to explain, in words or as one, or several lines; no words, and a line that is refused.
+    *((f"explain {line}", "0 BEGIN\n", 0, EXPLAINED, "") for line in ("1 GET_LOCK a", " 1 GET_LOCK a ", "1 GET_LOCK\ta")),
+    ("explain 1 GET_LOCK a\n# and\n1 TIMEOUT", "", 0, EXPLAINED + TIMED_OUT, ""),
+    *((f"explain{words}", "1 GET_LOCK a\n", 0, EXPLAINED, "") for words in ("", " --")),
+    ("explain", "", 0, "", ""),
+    ("explain ", "1 GET_LOCK a\n", 0, "", ""),
+    ("explain # 1", "", 0, "", ""),
+    ("explain 1", "", 1, "", "line 1: BadWord\n"),
+    ("explain BEGIN", "", 1, "", "line 1: BadSession\n"),
+    ("explain help", "", 1, "", "line 1: BadSession\n"),
+    (f"explain 1 SELECT {NINE}", "", 1, "", "line 1: BadWord\n"),
+    ("explain 1 GET_LOCK a b", "", 1, "", "line 1: BadWord\n"),
 ]
 
 # Ways to say how often a statement that waits looks again, and how many definitions a session keeps. The contract of `command` says which numbers are

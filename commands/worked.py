@@ -5,7 +5,7 @@ import pathlib
 import subprocess
 
 FOLDER = pathlib.Path(__file__).resolve().parent / "scripts"
-FILES = {"lock": "lock", "lock --scoped": "lock_scoped", "replay": "replay"}
+FILES = {"lock": "lock", "lock --scoped": "lock_scoped", "replay": "replay", "explain": "explain"}
 
 MARK = "    "
 

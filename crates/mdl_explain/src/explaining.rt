@@ -1,9 +1,8 @@
 //! Explains the lines of a script.
-ghost use Rattle.std.specs.Prelude.{◌≡◌, ◌++◌, IfErr, IfOk, IfSome, IsOk, OnOk, flat_map, if◌then◌else◌, [], true, false, codes};
+ghost use Rattle.std.specs.Prelude.{◌≡◌, ◌++◌, IfErr, IfOk, IfSome, IsOk, OnOk, flat_map};
 ghost use Rattle.std.specs.Io.KnownBytes.{Appends};
 ghost use Rattle.mdl_lines.specs.Words.{IsFaultOf, LeavesWritten, MayEnd};
 ghost use Rattle.mdl_syntax.specs.Scripts.{parsed};
-ghost use Rattle.mdl_plans.specs.Plans.{plan_of};
 ghost use Rattle.mdl_explain.specs.Explanations.{explanation, is_planned_by_read_lock, is_planned_by_tables, output_of, plans_text};
 
 use crate::plan_text::{push_own_plan, push_plan};
