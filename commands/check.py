@@ -1,6 +1,6 @@
 """Tests mdlsim's command line: which run its words ask for, and what it reports for words that ask for none. Also gives it worked scripts, scripts as
 large as may be, lines that it has to refuse, and streams that fail. Checks that the completions of the shells have the words that its help
-lists.
+lists, and that the table of statements in docs/LANGUAGE.md has what it explains.
 
 Usage, at the top of the repository: python3 commands/check.py [PROGRAM]    the program that was built last, or another one
 """
@@ -13,6 +13,7 @@ import sys
 from devices import cases_of_mdlsim, wrong_devices
 from limits import wrong_limits
 from lines import wrong_lines
+from table import wrong_table
 from worked import wrong_scripts
 
 PROGRAM = "crates/mdlsim/out/mdlsim"
@@ -123,7 +124,7 @@ def wrong_completions(program):
 def main(words):
     """Runs all checks, prints what is wrong, and returns the exit status."""
     program = words[0] if words else PROGRAM
-    parts = (wrong_rows, wrong_completions, wrong_scripts, wrong_limits, wrong_lines)
+    parts = (wrong_rows, wrong_completions, wrong_scripts, wrong_table, wrong_limits, wrong_lines)
     wrong = [*(found for part in parts for found in part(program)), *wrong_devices(program, cases_of_mdlsim)]
     for given, found in wrong:
         print(f"mdlsim {given}: {found}".replace("mdlsim mdlsim", "mdlsim"), file=sys.stderr)

@@ -1,5 +1,5 @@
 -- Which words the command of `mdlsim` takes, by clap's account of a parse.
-use Rattle.std.proofs.Common.{◌≡◌, ◌∙◌, ◌⊎◌, ◌&&◌, inl, inr, ap, refl, sym, subst, ap₂, true, false, true≢false, Bool, ℕ, List, [], ◌∷◌, ◌++◌, Option, Some, is_some, drop, codes, append-nil}
+use Rattle.std.proofs.Common.{◌≡◌, ◌∙◌, ◌⊎◌, ◌&&◌, inl, inr, ap, refl, sym, subst, ap₂, true, false, true≢false, ℕ, List, [], ◌∷◌, ◌++◌, Some, is_some, drop, codes, append-nil}
 use Rattle.std.specs.List.{list_all}
 use Rattle.std.specs.Str.{bytes_eq}
 use Rattle.clap.specs.Walk.{Names, Text, Walk, finished, nothing_held, rows_after, walked}
