@@ -590,8 +590,8 @@ module _ (met less : List (KeyName × Option ℕ)) (order : List KnownPlace) (kn
           let dropped : (q : KeyName) → place_met q less ≡ (if is_dropped (λ p. not (p == place)) q (known_keys (keys_of met) order) then None else place_met q met) =
           (λ q. told key q key-here.1
           ∙ ap (λ (goes : Bool). if goes then None else place_met q met)
-              (key-back key q ∙ sym (dropped-one known key place key-here.2 (λ other there. one key other key-here.2 there) q)
-              ∙ ap (is_dropped (λ p. not (p == place)) q) (sym are.0))) in
+          (key-back key q ∙ sym (dropped-one known key place key-here.2 (λ other there. one key other key-here.2 there) q)
+          ∙ ap (is_dropped (λ p. not (p == place)) q) (sym are.0))) in
           let fewer = kept-fewer (λ p. not (p == place)) met less order known are same dropped in
           let removed : remove order i ≡ filter (λ (x : KnownPlace). not (x.place == place)) order =
           subst (λ (p : ℕ). remove order i ≡ filter (λ (x : KnownPlace). not (x.place == p)) order) at

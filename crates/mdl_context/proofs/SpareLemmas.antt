@@ -233,6 +233,20 @@ module _ (needs : ℕ → Bool) where
         twice true = refl
         twice false = refl
 
+-- nor is this one unneeded, if it is needed after all
+pub none-here : (needs : ℕ → Bool) (place : ℕ) → needs place ≡ true → (known : List Entry) → AreMarked (At place) needs known
+    → filter (λ p. not (needs p)) (map (λ (e : Entry). e.1) known) ≡ []
+none-here needs place needed known are = none-spare needs known (still-marked (At place) Nowhere needs needs known so are) where
+  so : (q : ℕ) → (needs q || marks (At place) q) ≡ true → (needs q || marks Nowhere q) ≡ true
+  so q is = elim (either-of (needs q) (place == q) is) [
+    | inl here ↦ first-of (needs q) false here
+    | inr at ↦ first-of (needs q) false (subst (λ p. needs p ≡ true) (same-place place q at) needed)
+  ]
+
+-- so no pin is given up
+pub run-none : {S : Type 0} (joins : S → Call → Answer → S → Type 0) (a : S) (who : ℕ) (places : List ℕ) → places ≡ [] → Runs joins a (unpinning_all who places) tt a
+run-none joins a who places none = subst (λ (ps : List ℕ). Runs joins a (unpinning_all who ps) tt a) (sym none) (refl, refl)
+
 -- ---- one key at a place
 
 -- the keys that a context knows at a place are one, as the space has one there

@@ -6,8 +6,7 @@ use Rattle.mdl_context.proofs.holdings.Holdings.keep.Goals as goal
 
 pub invariant_of-self : goal.invariant_of-self
 invariant_of-self c =
-    let items : c.push_reserved.new.self.items ≡ c.self.inside.tickets.items ++ c.args.ticket ∷ [] = c.push_reserved.ensures.items in
-    (
+    let items : c.push_reserved.new.self.items ≡ c.self.inside.tickets.items ++ c.args.ticket ∷ [] = c.push_reserved.ensures.items in (
       rw items (index-more c.self.inside.tickets.items c.args.ticket _ _ c.self.invariant.0 c.push.ensures),
       search rules,
       marked-more c.self.inside.known c.self.inside.by_place c.push.new.self c.args.ticket.place c.args.ticket.id c.self.inside.wait c.self.inside.wait c.self.inside.spare

@@ -32,8 +32,7 @@ invariant_of-self c =
     let left : c.remove-ticket.new.self.items ≡ without_number c.args.id kept = c.remove-ticket.ensures.items ∙ sym (without_at c.args.id kept c.args.at rising place) in
     let less = index-less kept c.args.id t c.self.inside.by_place c.remove.new.self rising found c.self.invariant.0 c.remove.ensures.numbers in
     let fewer : length c.remove-ticket.new.self.items + 1 ≡ length kept = search rules in
-    let room = room-stays c.self.inside.wait c.self.inside.by_place c.remove.new.self (length kept) (length c.remove-ticket.new.self.items) (vec_capacity c.self.inside.tickets) fewer c.remove.ensures.stays c.self.invariant.1 in
-    (
+    let room = room-stays c.self.inside.wait c.self.inside.by_place c.remove.new.self (length kept) (length c.remove-ticket.new.self.items) (vec_capacity c.self.inside.tickets) fewer c.remove.ensures.stays c.self.invariant.1 in (
       rw left less,
       rw c.remove-ticket.ensures.capacity room,
       marked-one c.self.inside.known c.self.inside.by_place c.remove.new.self c.self.inside.wait c.self.inside.spare c.mark.new.self t.place

@@ -17,8 +17,7 @@ invariant_of-self c =
     let index = subst (λ (xs : List Kept). IsIndexOf xs c.self.inside.by_place) parted c.self.invariant.0 in
     let less = index-fewer rest t c.self.inside.by_place c.remove_last.new.self index c.remove_last.ensures.numbers in
     let fewer : length rest + 1 ≡ length kept = omega (arith, ap length parted, length-append rest (t ∷ [])) in
-    let room = room-stays c.self.inside.wait c.self.inside.by_place c.remove_last.new.self (length kept) (length rest) (vec_capacity c.self.inside.tickets) fewer c.remove_last.ensures.stays c.self.invariant.1 in
-    (
+    let room = room-stays c.self.inside.wait c.self.inside.by_place c.remove_last.new.self (length kept) (length rest) (vec_capacity c.self.inside.tickets) fewer c.remove_last.ensures.stays c.self.invariant.1 in (
       less,
       rw c.pop.ensures.capacity room,
       marked-one c.self.inside.known c.self.inside.by_place c.remove_last.new.self c.self.inside.wait c.self.inside.spare c.mark.new.self t.place

@@ -19,6 +19,6 @@ invariant_of-self c =
       rw items (index-more c.self.inside.tickets.items ticket _ _ c.self.invariant.0 c.push.ensures),
       search rules,
       subst (λ (wait : Option Wanted). AreMarked c.self.inside.spare (needs_place c.push.new.self wait) c.self.inside.known) (sym gone)
-      (marked-more c.self.inside.known c.self.inside.by_place c.push.new.self wanted.place c.args.id (Some wanted) None c.self.inside.spare c.self.inside.spare c.push.ensures
-      (λ q apart is. sym apart ∙ is) (λ q apart is. is) are),
+          (marked-more c.self.inside.known c.self.inside.by_place c.push.new.self wanted.place c.args.id (Some wanted) None c.self.inside.spare c.self.inside.spare c.push.ensures
+          (λ q apart is. sym apart ∙ is) (λ q apart is. is) are),
     )
