@@ -1,22 +1,21 @@
 -- Which known places may be unneeded, as tickets, waits and keys come and go.
-use Rattle.std.proofs.Common.{◌≡◌, ◌⊎◌, inl, inr, ℕ, zero, suc, ◌<◌, Bool, true, false, List, [], ◌∷◌, ◌++◌, length, get_or, Option, Some, None, refl, sym, ap, subst, ◌∙◌, arith}
+use Rattle.std.proofs.Common.{◌≡◌, ◌⊎◌, inl, inr, ℕ, Bool, true, false, List, [], ◌∷◌, ◌++◌, length, Option, Some, None, refl, sym, ap, subst, ◌∙◌, arith}
 use Rattle.std.specs.Prelude.{◌||◌, ◌==◌, not, filter, map, if◌then◌else◌}
-use Rattle.std.specs.List.{Contains}
 use Rattle.std.specs.Option.{option_map, option_map_or}
 use Rattle.std.proofs.lemmas.Bool.Decides.{nat_tests}
-use Rattle.std.proofs.lemmas.List.Elements.{All-head, All-nil, All-push, All-tail, All-weaker, filter_passes}
+use Rattle.std.proofs.lemmas.List.Elements.{All-head, All-push, All-tail, All-weaker, filter_passes}
 use Rattle.mdl_key.specs.Keys.{KeyName}
 use Rattle.mdl_calls.specs.Words.{Answer, Call, Runs}
 use Rattle.mdl_calls.specs.declared.lock_space.LockSpace.{Ghosts}
 use Rattle.mdl_calls.specs.MemberLaws.{LawsOf}
 use Rattle.mdl_context.specs.declared.kept.Wanted.{Wanted}
 use Rattle.mdl_context.specs.declared.spare.Spare.{Spare}
-use Rattle.mdl_context.specs.declared.spare.Spare.TheVariants.{Nowhere, At, Anywhere}
+use Rattle.mdl_context.specs.declared.spare.Spare.TheVariants.{Nowhere, At}
 use Rattle.mdl_context.specs.Contexts.{Attends, ContextView}
 use Rattle.mdl_context.specs.Holdings.{needs_place, search_over}
 use Rattle.mdl_context.specs.Indexes.{Index, ticket_numbers}
 use Rattle.mdl_context.specs.Spares.{AreMarked, HasOneKey, marks}
-use Rattle.mdl_context.specs.Tidying.{is_needed, unneeded, unpinning_all}
+use Rattle.mdl_context.specs.Tidying.{unpinning_all}
 use Rattle.mdl_context.proofs.KnownLemmas.{Entry, all-parts}
 
 -- ---- either of two tests

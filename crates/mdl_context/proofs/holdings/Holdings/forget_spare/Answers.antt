@@ -1,6 +1,6 @@
 -- All known places but this one are needed.
 use Rattle.std.proofs.Common.{◌≡◌, ◌∙◌, ap, subst, sym}
-use Rattle.std.specs.Prelude.{◌==◌, filter, map, not}
+use Rattle.std.specs.Prelude.{◌==◌, filter, not}
 use Rattle.std.proofs.lemmas.List.Elements.{filter_agree}
 use Rattle.mdl_context.specs.declared.spare.Spare.TheVariants.{Nowhere}
 use Rattle.mdl_context.specs.Contexts.{ContextView}

@@ -6,7 +6,7 @@ use Rattle.mdl_context.specs.declared.spare.Spare.TheVariants.{Nowhere}
 use Rattle.mdl_context.specs.Contexts.{ContextView}
 use Rattle.mdl_context.specs.Holdings.{needs_place}
 use Rattle.mdl_context.specs.Spares.{AreMarked}
-use Rattle.mdl_context.specs.Tidying.{is_needed, unneeded}
+use Rattle.mdl_context.specs.Tidying.{unneeded}
 use Rattle.mdl_context.proofs.KnownLemmas.{Entry, needed-told}
 use Rattle.mdl_context.proofs.SpareLemmas.{marked-needed}
 use Rattle.mdl_context.proofs.TidyLemmas.{tidied-same}
