@@ -45,8 +45,8 @@ module _ (space : Core) (key : KeyName) where
         let same : other ≡ place = tied.keys other place there.0 has (there.1 ∙ sym is) in grind (arith, nat_tests)
     by false differs = elim (eqb_tells other place) [
       | inl same ↦ (
-        let here : is_place_of key other space ≡ true = subst (λ p. is_place_of key p space ≡ true) (sym same.1) (keyed place has ∙ (key-Decides key (key_at place space)).1 (sym is)) in
-        absurd (false≢true (sym differs ∙ here)))
+          let here : is_place_of key other space ≡ true = subst (λ p. is_place_of key p space ≡ true) (sym same.1) (keyed place has ∙ (key-Decides key (key_at place space)).1 (sym is)) in
+          absurd (false≢true (sym differs ∙ here)))
       | inr not ↦ grind (arith, nat_tests, not.1)
     ]
 

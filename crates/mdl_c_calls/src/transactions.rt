@@ -142,13 +142,7 @@ pub fn gaz_one_try_acquire(
 }
 
 // Returns whether the session's context keeps a ticket of a key in a mode at least as strong.
-fn holds(
-    alloc: Global,
-    space: &mut OneSpace,
-    who: u16,
-    key: &KeyNames<'_>,
-    mode: Mode,
-) -> u32
+fn holds(alloc: Global, space: &mut OneSpace, who: u16, key: &KeyNames<'_>, mode: Mode) -> u32
     ensures { Replies context_fault who (TellsKept who key.now mode) kept_code Untold space.old.handle.manager result space.new.handle.manager }
 {
     let Some(mut manager) = space.take(alloc) else {

@@ -209,20 +209,15 @@ impl ServedSpace {
 }
 
 // Whether a context keeps a ticket of a key in a mode at least as strong. The key is compared with those at the places of its tickets.
-fn keeps(
-    space: &CoreSpace,
-    context: &Context<CoreSpace>,
-    key: &KeyNames<'_>,
-    mode: Mode,
-) -> bool
+fn keeps(space: &CoreSpace, context: &Context<CoreSpace>, key: &KeyNames<'_>, mode: Mode) -> bool
     requires { Attends core_space space.now context.now }
     ensures { result ≡ holds_as_strong key.now mode context.now }
 {
-    key.kind().has_mode(mode)
-        && context
-            .kept()
-            .iter()
-            .any(|ticket| covers(ticket.mode, mode) && is_at(space, ticket.place, key))
+    if !key.kind().has_mode(mode) {
+        return false;
+    }
+    let tickets = context.kept();
+    tickets.iter().any(|held| covers(held.mode, mode) && is_at(space, held.place, key))
 }
 
 // Whether a key is at a place.

@@ -9,11 +9,11 @@ use Rattle.mdl_context.specs.Contexts.{covers_at, place_known}
 use Rattle.mdl_c_calls.proofs.KeptLemmas.{is_of_key, kept-by_key}
 use Rattle.mdl_c_calls.proofs.manager.contexts.keeps.Goals as goal
 
-pub returns-then-has_mode : goal.returns-then-has_mode
-returns-then-has_mode c =
+pub returns : goal.returns
+returns c =
     let key = c.args.key.now in let context = c.args.context.now in
     let has : is_mode_of (kind_of key.namespace) c.args.mode ≡ true =
-        ap (λ kind. is_mode_of kind c.args.mode) (sym c.kind.ensures) ∙ sym c.has_mode.ensures ∙ c.if-has_mode.true in
+    ap (λ kind. is_mode_of kind c.args.mode) (sym c.kind.ensures) ∙ sym c.has_mode.ensures ∙ c.if-has_mode.true in
     any_from_yields_List (is_of_key key c.args.mode c.args.space.now) _ _ c.any.result c.any.ensures.ran
     (YieldsList-from_slice context.kept (c.iter.ensures.rest ∙ c.kept.ensures)) (λ x b q k. search (rules, tests))
     ∙ kept-by_key c.args.space.now key context c.args.mode c.requires
