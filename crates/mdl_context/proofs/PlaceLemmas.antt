@@ -20,7 +20,7 @@ use Rattle.mdl_context.specs.Wishes.{Wish}
 use Rattle.mdl_context.specs.Contexts.{AreRising, held_of, is_user_lock, lasts}
 use Rattle.mdl_context.specs.Requests.{suffices, is_reusable}
 use Rattle.mdl_context.specs.declared.wishes.Terms.{Terms}
-use Rattle.mdl_context.specs.Terms.{meets, serves_again, terms_of, wish_for}
+use Rattle.mdl_context.specs.Terms.{first_of, meets, serves_again, terms_of, wish_for}
 use Rattle.mdl_context.specs.Holdings.{is_kept_at, has_ticket_number, without_number, numbers_among, IsIndexOf, earliest, kept_for, lasting, in_transaction, transactional}
 use Rattle.mdl_context.specs.Indexes.{Index, ticket_numbers, has_room_for, rises, without_last, without_one}
 use Rattle.mdl_context.proofs.FrontLemmas.{Above, above-filter, rising-filter}
@@ -231,15 +231,6 @@ again-at place terms t passes = meets-at place terms t (first_holds _ _ (first_h
 pub suffices-at : (place : ℕ) (request : Wish) (t : Kept) → suffices place request t ≡ true → is_kept_at place t ≡ true
 suffices-at place request t passes = meets-at place (terms_of request) t passes
 
--- what can be used again suffices
-pub none-again : (place : ℕ) (terms : Terms) (xs : List Kept) → earliest (meets place terms) xs ≡ None → earliest (serves_again place terms) xs ≡ None
-none-again place terms [] none = refl
-none-again place terms (x ∷ xs) none = by_test (meets place terms x) refl (none-again place terms xs) where
-  by_test : (test : Bool) → meets place terms x ≡ test → (earliest (meets place terms) xs ≡ None → earliest (serves_again place terms) xs ≡ None)
-      → earliest (serves_again place terms) (x ∷ xs) ≡ None
-  by_test true e later = absurd (grind (arith, none, e))
-  by_test false e later = grind (arith, none, e, later)
-
 -- the terms of a request are as good as the request
 pub enough-for : (place : ℕ) (terms : Terms) (key : KeyName) (xs : List Kept) → kind_of key.namespace ≡ terms.kind → earliest (meets place terms) xs ≡ earliest (suffices place (wish_for key terms)) xs
 enough-for place terms key xs same =
@@ -291,6 +282,15 @@ module _ (xs : List Kept) (place : ℕ) (p : Kept → Bool) where
 
       pub from-failing : (t : Kept) → find (has_ticket_number (get_or numbers i 0)) xs ≡ Some t → p t ≡ false → earliest_from (i + 1) ≡ earliest_from i
       from-failing t found fails = sym (ap (earliest p) (next t found) ∙ grind arith)
+
+      -- the first that passes, of those so far and the others
+      pub first-next : (first : Option Held) (t : Kept) → find (has_ticket_number (get_or numbers i 0)) xs ≡ Some t
+          → first_of (first_of first (if p t then Some (held_of t) else None)) (earliest_from (i + 1)) ≡ first_of first (earliest_from i)
+      first-next (Some held) t found = refl
+      first-next None t found = by (p t) refl where
+        by : (passes : Bool) → p t ≡ passes → first_of (if p t then Some (held_of t) else None) (earliest_from (i + 1)) ≡ earliest_from i
+        by true passes = rw passes (sym (from-passing t found passes))
+        by false fails = rw fails (from-failing t found fails)
 
 -- the last number is that behind all others
 last-behind : (n : ℕ) (numbers : List ℕ) → slice_get (n ∷ numbers) (length numbers) ≡ last_or (Some n) numbers

@@ -1,8 +1,9 @@
 -- What a request needs to know of its key once its place is known, as the code of a context represents it.
-use Rattle.std.specs.Prelude.{ℕ, Bool, not, ◌&&◌, None}
+use Rattle.std.specs.Prelude.{ℕ, Bool, not, ◌&&◌, Option, Some, None}
 use Rattle.mdl_key.specs.declared.mode.Duration.TheVariants.{Explicit}
 use Rattle.mdl_key.specs.Keys.{KeyName}
 use Rattle.mdl_key.specs.Modes.{kind_of, is_mode_of}
+use Rattle.mdl_calls.specs.declared.answers.Held.{Held}
 use Rattle.mdl_system.specs.Strength.{covers}
 use Rattle.mdl_context.specs.declared.kept.Kept.{Kept}
 use Rattle.mdl_context.specs.declared.kept.Wanted.{Wanted}
@@ -26,6 +27,11 @@ meets place terms ticket = is_kept_at place ticket && covers ticket.mode terms.m
 -- whether a ticket can be used again at a place on these terms
 abbrev pub serves_again : ℕ → Terms → Kept → Bool
 serves_again place terms ticket = meets place terms ticket && lasts terms.duration ticket && not (lasts Explicit ticket)
+
+-- the first of two tickets, if there is one
+abbrev pub first_of : Option Held → Option Held → Option Held
+first_of None later = later
+first_of (Some held) later = Some held
 
 -- the ticket that is got at a place on these terms
 abbrev pub ticket_got : ℕ → ℕ → Terms → Kept

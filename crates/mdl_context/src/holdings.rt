@@ -20,7 +20,7 @@ use crate::by_place::ByPlace;
 use crate::going::Going;
 use crate::known::Known;
 use crate::spare::Spare;
-use crate::wishes::{Terms, covers};
+use crate::wishes::{Terms, Usable, covers};
 use crate::{Kept, Wanted};
 use mdl_key::{Duration, Key, Mode};
 use mdl_space::{Held, Place, TicketId};
@@ -494,63 +494,42 @@ impl Holdings {
         self.by_place.numbers(place).last().copied()
     }
 
-    /// The earliest ticket at a place that can be used again on these terms, given the earliest one that suffices. Without that, there
-    /// is none.
-    pub(crate) fn reusable(
-        &self,
-        place: Place,
-        terms: &Terms,
-        sufficient: Option<Held>,
-    ) -> Option<Held>
-        requires rising { AreRising self.now.kept }
-        requires sufficient { sufficient ≡ earliest (meets place terms.now) self.now.kept }
-        ensures { result ≡ earliest (serves_again place terms.now) self.now.kept }
-    {
-        if sufficient.is_none() {
-            return None;
-        }
-        self.first_reusable(place, terms)
-    }
-
-    // The same by a look at the tickets there. It is apart so that the test of what suffices is inlined.
-    #[inline(never)]
-    fn first_reusable(&self, place: Place, terms: &Terms) -> Option<Held>
+    /// The tickets at a place that a request can use on these terms.
+    pub(crate) fn usable(&self, place: Place, terms: &Terms) -> Usable
         requires { AreRising self.now.kept }
-        ensures { result ≡ earliest (serves_again place terms.now) self.now.kept }
-    {
-        for id in self.by_place.numbers(place) {
-            let ticket = numbered(&self.tickets, *id)?;
-            if terms.can_reuse(place, ticket) {
-                return Some(ticket.held());
-            }
-        }
-        None
-    }
-
-    /// The earliest ticket at a place that suffices on these terms.
-    pub(crate) fn sufficient(&self, place: Place, terms: &Terms) -> Option<Held>
-        requires { AreRising self.now.kept }
-        ensures { result ≡ earliest (meets place terms.now) self.now.kept }
+        ensures again { result.again ≡ earliest (serves_again place terms.now) self.now.kept }
+        ensures sufficient { result.again ≡ None → result.sufficient ≡ earliest (meets place terms.now) self.now.kept }
     {
         if self.by_place.numbers(place).is_empty() {
-            return None;
+            return Usable::NONE;
         }
-        self.first_sufficient(place, terms)
+        self.find_usable(place, terms)
     }
 
     // The same by a look at the tickets there. It is apart so that the check for a ticket is inlined.
     #[inline(never)]
-    fn first_sufficient(&self, place: Place, terms: &Terms) -> Option<Held>
+    fn find_usable(&self, place: Place, terms: &Terms) -> Usable
         requires { AreRising self.now.kept }
-        ensures { result ≡ earliest (meets place terms.now) self.now.kept }
+        ensures again { result.again ≡ earliest (serves_again place terms.now) self.now.kept }
+        ensures sufficient { result.again ≡ None → result.sufficient ≡ earliest (meets place terms.now) self.now.kept }
     {
+        let mut sufficient = None;
         for id in self.by_place.numbers(place) {
-            let ticket = numbered(&self.tickets, *id)?;
-            if terms.is_met_by(place, ticket) {
-                return Some(ticket.held());
+            let Some(ticket) = numbered(&self.tickets, *id) else {
+                return Usable::NONE;
+            };
+            if terms.can_reuse(place, ticket) {
+                return Usable {
+                    again: Some(ticket.held()),
+                    sufficient: None,
+                };
             }
+            sufficient = terms.first_met(place, sufficient, ticket);
         }
-        None
+        Usable {
+            again: None,
+            sufficient,
+        }
     }
 }
 

@@ -1,12 +1,30 @@
 //! Which tickets a request (a wish) can use, and which it gets.
-ghost use Rattle.std.specs.Prelude.{◌≡◌};
+ghost use Rattle.std.specs.Prelude.{◌≡◌, Some, None, if◌then◌else◌};
 ghost use Rattle.mdl_system.specs.Strength.{covers};
-ghost use Rattle.mdl_context.specs.Terms.{meets, serves_again, terms_of, ticket_got, ticket_wanted};
+ghost use Rattle.mdl_context.specs.Contexts.{held_of};
+ghost use Rattle.mdl_context.specs.Terms.{first_of, meets, serves_again, terms_of, ticket_got, ticket_wanted};
 ghost use Rattle.mdl_context.specs.Wishes.{wish_of_request};
 
 use crate::{Kept, Request, Wanted};
 use mdl_key::{Duration, Kind, Mode, at_least};
-use mdl_space::{Place, TicketId};
+use mdl_space::{Held, Place, TicketId};
+
+/// The tickets at a place that a request can use.
+#[derive(Clone, Copy)]
+pub(crate) struct Usable {
+    /// The earliest one that can be used again.
+    pub(crate) again: Option<Held>,
+    /// The earliest one that suffices, if none can be used again.
+    pub(crate) sufficient: Option<Held>,
+}
+
+impl Usable {
+    /// No ticket.
+    pub(crate) const NONE: Usable = Usable {
+        again: None,
+        sufficient: None,
+    };
+}
 
 /// What a request asks for at the place of its key.
 #[derive(Clone, Copy)]
@@ -47,6 +65,24 @@ impl Terms {
         self.is_met_by(place, ticket)
             && ticket.lasts(self.duration)
             && !ticket.lasts(Duration::Explicit)
+    }
+
+    /// The first of two tickets that suffices: one that was found before, if any, or else this one.
+    pub(crate) fn first_met(
+        &self,
+        place: Place,
+        found: Option<Held>,
+        ticket: &Kept,
+    ) -> Option<Held>
+        ensures { result ≡ first_of found (if meets place self.now ticket.now then Some (held_of ticket.now) else None) }
+    {
+        if found.is_some() {
+            return found;
+        }
+        if self.is_met_by(place, ticket) {
+            return Some(ticket.held());
+        }
+        None
     }
 
     /// The ticket that the request gets.

@@ -113,14 +113,14 @@ impl<S: LockSpace> Context<S> {
         ensures pins { (S.own space.new self.old.who).pins ≡ (S.own space.old self.old.who).pins }
         ensures wait { WaitsAfter result None self.new.wait }
     {
-        let sufficient = self.holdings.sufficient(place, &terms);
-        if let Some(ticket) = self.holdings.reusable(place, &terms, sufficient) {
+        let usable = self.holdings.usable(place, &terms);
+        if let Some(ticket) = usable.again {
             return Ok(Acquire::Acquired(ticket.id));
         }
         if self.holdings.reserve(place).is_err() {
             return Err(ContextError::Space(SpaceError::OutOfMemory));
         }
-        match gain(space, self.who, sufficient, place, terms.mode) {
+        match gain(space, self.who, usable.sufficient, place, terms.mode) {
             Ok(AskResult::Granted(id)) => {
                 self.holdings.keep(terms.kept(id, place));
                 Ok(Acquire::Acquired(id))

@@ -95,14 +95,14 @@ impl<S: LockSpace> Context<S> {
         ensures pins { (S.own space.new self.old.who).pins ≡ (S.own space.old self.old.who).pins }
         ensures wait { self.new.wait ≡ None }
     {
-        let sufficient = self.holdings.sufficient(place, &terms);
-        if let Some(ticket) = self.holdings.reusable(place, &terms, sufficient) {
+        let usable = self.holdings.usable(place, &terms);
+        if let Some(ticket) = usable.again {
             return Ok(Tried::Acquired(ticket.id));
         }
         if self.holdings.reserve(place).is_err() {
             return Err(ContextError::Space(SpaceError::OutOfMemory));
         }
-        match try_gain(space, self.who, sufficient, place, terms.mode) {
+        match try_gain(space, self.who, usable.sufficient, place, terms.mode) {
             Ok(Tried::Acquired(id)) => {
                 self.holdings.keep(terms.kept(id, place));
                 Ok(Tried::Acquired(id))

@@ -18,36 +18,36 @@ pub gain-requires-clause-held : goal.gain-requires-clause-held
 gain-requires-clause-held g c =
     let before : ContextView = context_of c.self.inside.who c.self.inside.holdings in
     let serves = rw (← c.self.view_is) at c.requires.attends.serves in
-    sufficient-held c.args.place c.args.terms _ before c.sufficient-sufficient.result (g.met.S.LockSpace.laws.rising _ _ (rw (← c.self.view_is) at c.requires.attends.speaks)) serves c.sufficient-sufficient.ensures
+    sufficient-held c.args.place c.args.terms _ before c.usable-usable.result.sufficient (g.met.S.LockSpace.laws.rising _ _ (rw (← c.self.view_is) at c.requires.attends.speaks)) serves (c.usable-usable.ensures.sufficient c.in_default.is)
 
 pub returns-in-Ok-Granted-clause-run : goal.returns-in-Ok-Granted-clause-run
 returns-in-Ok-Granted-clause-run g c key same =
     let before : ContextView = context_of c.self.inside.who c.self.inside.holdings in
-    let usable = c.reusable.ensures ∙ usable-for c.args.place c.args.terms key c.self.inside.holdings.kept same in
-    let enough = c.sufficient-sufficient.ensures ∙ enough-for c.args.place c.args.terms key c.self.inside.holdings.kept same in
+    let usable = c.usable-usable.ensures.again ∙ usable-for c.args.place c.args.terms key c.self.inside.holdings.kept same in
+    let enough = c.usable-usable.ensures.sufficient c.in_default.is ∙ enough-for c.args.place c.args.terms key c.self.inside.holdings.kept same in
     let after = same-context c.self.inside.who _ _ _ _ _ _ (c.keep.ensures.kept ∙ ap (λ (kept : List Kept). kept ++ c.kept.result ∷ []) c.reserve.ensures.kept ∙ ap (λ (ticket : Kept). c.self.inside.holdings.kept ++ ticket ∷ []) c.kept.ensures) (c.keep.ensures.known ∙ c.reserve.ensures.known) (c.keep.ensures.wait ∙ sym (rw (← c.self.view_is) at c.requires.idle)) in
     rw (← c.self.view_is)
-    (run-gained g.S.LockSpace.joins c.args.place (wish_for key c.args.terms) before c.reusable.result usable c.sufficient-sufficient.result c.gain.result _ _ _ c.in_default.is enough c.gain.ensures.run
+    (run-gained g.S.LockSpace.joins c.args.place (wish_for key c.args.terms) before c.usable-usable.result.again usable c.usable-usable.result.sufficient c.gain.result _ _ _ c.in_default.is enough c.gain.ensures.run
     (rw (c.in-Ok-Granted.is, c.in-Ok-Granted.field-0-is) (ap (λ context. (Ok (Acquired c.in-Ok-Granted.id), context)) (sym after))))
 
 pub returns-in-Ok-Waits-clause-run : goal.returns-in-Ok-Waits-clause-run
 returns-in-Ok-Waits-clause-run g c key same =
     let before : ContextView = context_of c.self.inside.who c.self.inside.holdings in
-    let usable = c.reusable.ensures ∙ usable-for c.args.place c.args.terms key c.self.inside.holdings.kept same in
-    let enough = c.sufficient-sufficient.ensures ∙ enough-for c.args.place c.args.terms key c.self.inside.holdings.kept same in
+    let usable = c.usable-usable.ensures.again ∙ usable-for c.args.place c.args.terms key c.self.inside.holdings.kept same in
+    let enough = c.usable-usable.ensures.sufficient c.in_default.is ∙ enough-for c.args.place c.args.terms key c.self.inside.holdings.kept same in
     let after = same-context c.self.inside.who _ _ _ _ _ _ (c.begin_wait.ensures.kept ∙ c.reserve.ensures.kept) (c.begin_wait.ensures.known ∙ c.reserve.ensures.known) (c.begin_wait.ensures.wait ∙ ap (λ wanted. Some wanted) c.wanted.ensures) in
     rw (← c.self.view_is)
-    (run-gained g.S.LockSpace.joins c.args.place (wish_for key c.args.terms) before c.reusable.result usable c.sufficient-sufficient.result c.gain.result _ _ _ c.in_default.is enough c.gain.ensures.run
+    (run-gained g.S.LockSpace.joins c.args.place (wish_for key c.args.terms) before c.usable-usable.result.again usable c.usable-usable.result.sufficient c.gain.result _ _ _ c.in_default.is enough c.gain.ensures.run
     (rw (c.in-Ok-Waits.is, c.in-Ok-Waits.field-0-is) (ap (λ context. (Ok (MustWait c.in-Ok-Waits.number), context)) (sym after))))
 
 pub returns-in-Err-clause-run : goal.returns-in-Err-clause-run
 returns-in-Err-clause-run g c key same =
     let before : ContextView = context_of c.self.inside.who c.self.inside.holdings in
-    let usable = c.reusable.ensures ∙ usable-for c.args.place c.args.terms key c.self.inside.holdings.kept same in
-    let enough = c.sufficient-sufficient.ensures ∙ enough-for c.args.place c.args.terms key c.self.inside.holdings.kept same in
+    let usable = c.usable-usable.ensures.again ∙ usable-for c.args.place c.args.terms key c.self.inside.holdings.kept same in
+    let enough = c.usable-usable.ensures.sufficient c.in_default.is ∙ enough-for c.args.place c.args.terms key c.self.inside.holdings.kept same in
     let after = same-context c.self.inside.who _ _ _ _ _ _ c.reserve.ensures.kept c.reserve.ensures.known (c.reserve.ensures.wait ∙ sym (rw (← c.self.view_is) at c.requires.idle)) in
     rw (← c.self.view_is)
-    (run-gained g.S.LockSpace.joins c.args.place (wish_for key c.args.terms) before c.reusable.result usable c.sufficient-sufficient.result c.gain.result _ _ _ c.in_default.is enough c.gain.ensures.run
+    (run-gained g.S.LockSpace.joins c.args.place (wish_for key c.args.terms) before c.usable-usable.result.again usable c.usable-usable.result.sufficient c.gain.result _ _ _ c.in_default.is enough c.gain.ensures.run
     (rw c.in-Err.is (ap (λ context. (Err (Space c.in-Err.refusal), context)) (sym after))))
 
 pub returns-in-Ok-Granted-clause-attends : goal.returns-in-Ok-Granted-clause-attends
@@ -69,15 +69,15 @@ returns-in-Ok-Waits-clause-attends g c =
 pub returns-in-Some-clause-run : goal.returns-in-Some-clause-run
 returns-in-Some-clause-run g c key same =
     let before : ContextView = context_of c.self.inside.who c.self.inside.holdings in
-    let usable = c.reusable.ensures ∙ usable-for c.args.place c.args.terms key c.self.inside.holdings.kept same in
-    rw (← c.self.view_is) (run-reused g.S.LockSpace.joins c.args.place (wish_for key c.args.terms) before c.reusable.result usable c.in-Some.ticket before _ c.in-Some.is refl)
+    let usable = c.usable-usable.ensures.again ∙ usable-for c.args.place c.args.terms key c.self.inside.holdings.kept same in
+    rw (← c.self.view_is) (run-reused g.S.LockSpace.joins c.args.place (wish_for key c.args.terms) before c.usable-usable.result.again usable c.in-Some.ticket before _ c.in-Some.is refl)
 
 pub returns-then-is_err-clause-run : goal.returns-then-is_err-clause-run
 returns-then-is_err-clause-run g c key same =
     let before : ContextView = context_of c.self.inside.who c.self.inside.holdings in
-    let usable = c.reusable.ensures ∙ usable-for c.args.place c.args.terms key c.self.inside.holdings.kept same in
+    let usable = c.usable-usable.ensures.again ∙ usable-for c.args.place c.args.terms key c.self.inside.holdings.kept same in
     let after = same-context c.self.inside.who _ _ _ _ _ _ c.reserve.ensures.kept c.reserve.ensures.known (c.reserve.ensures.wait ∙ sym (rw (← c.self.view_is) at c.requires.idle)) in
-    rw (← c.self.view_is) (run-starved g.S.LockSpace.joins c.args.place (wish_for key c.args.terms) before c.reusable.result usable _ _ c.in_default.is after)
+    rw (← c.self.view_is) (run-starved g.S.LockSpace.joins c.args.place (wish_for key c.args.terms) before c.usable-usable.result.again usable _ _ c.in_default.is after)
 
 pub gain-requires-clause-pinned : goal.gain-requires-clause-pinned
 gain-requires-clause-pinned g c =
