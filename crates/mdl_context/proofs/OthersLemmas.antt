@@ -17,7 +17,7 @@ use Rattle.mdl_context.specs.Requests as requests
 use Rattle.mdl_context.specs.Requests.{Outcome}
 use Rattle.mdl_context.specs.Upgrades as upgrades
 use Rattle.mdl_context.specs.Waits as waits
-use Rattle.mdl_context.proofs.OwnCallLemmas.{calls_weaker, own_reusing, own_finding, own_trying_again, own_trying_found, own_ending, own_looking, own_searching_on, own_all, own_releasing, own_giving_up, own_upgrading, own_downgrading}
+use Rattle.mdl_context.proofs.OwnCallLemmas.{calls_weaker, own_reusing, own_finding, own_trying_again, own_trying_found, own_ending, own_looking, own_searching_on, own_releasing, own_giving_up, own_upgrading}
 
 -- a program makes all its calls for one session
 abbrev pub IsFor : {A : Type 0} → ℕ → Program A → Type 0

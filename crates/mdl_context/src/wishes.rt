@@ -68,12 +68,7 @@ impl Terms {
     }
 
     /// The first of two tickets that suffices: one that was found before, if any, or else this one.
-    pub(crate) fn first_met(
-        &self,
-        place: Place,
-        found: Option<Held>,
-        ticket: &Kept,
-    ) -> Option<Held>
+    pub(crate) fn first_met(&self, place: Place, found: Option<Held>, ticket: &Kept) -> Option<Held>
         ensures { result ≡ first_of found (if meets place self.now ticket.now then Some (held_of ticket.now) else None) }
     {
         if found.is_some() {
