@@ -2,6 +2,7 @@ pub mod DeadlockLemmas
 pub mod DefinitionLemmas
 pub mod KnownKeyLemmas
 pub mod ModeLemmas
+pub mod NeedLemmas
 pub mod PinCountLemmas
 pub mod PlaceLemmas
 pub mod SearchLemmas

@@ -118,8 +118,8 @@ impl Seat {
         some_at(&self.held, place) || self.waits_at(place)
     }
 
-    // Whether the wait is at a place.
-    fn waits_at(&self, place: Place) -> bool
+    /// Whether the wait is at a place.
+    pub(crate) fn waits_at(&self, place: Place) -> bool
         ensures { result ≡ is_wait_at place self.now.wait }
     {
         match self.wait {

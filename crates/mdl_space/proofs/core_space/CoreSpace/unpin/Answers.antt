@@ -11,7 +11,7 @@ index_mut-requires-2 c =
     let seats = c.self.inside.seats.items in
     let seat = c.index_mut.result.now in
     let here : seat ≡ seat_at c.args.who c.args.self.now =
-    seat_here c.args.self.now seats c.args.who c.from.result seat (ap (λ (k : Core). k.seats) c.self.view_is) c.requires c.from.ensures c.index_mut.ensures.value in
+    seat_here c.args.self.now seats c.args.who c.from.result seat (ap (λ (k : Core). k.seats) c.self.view_is) c.requires.0 c.from.ensures c.index_mut.ensures.value in
     let had : pins c.args.place seat ≡ true = ap (pins c.args.place) here ∙ c.in_ok-check_unpin.ensures.pinned in
     let within = pinned-within c.self.inside.pinned.items seats c.self.invariant.pinned (c.from.result - 1) seat c.args.place (search rules) (search rules) had in
     search (rules, within)
@@ -22,7 +22,7 @@ overflow_sub-index_mut c =
     let counts = c.self.inside.pinned.items in
     let seat = c.index_mut.result.now in
     let here : seat ≡ seat_at c.args.who c.args.self.now =
-    seat_here c.args.self.now seats c.args.who c.from.result seat (ap (λ (k : Core). k.seats) c.self.view_is) c.requires c.from.ensures c.index_mut.ensures.value in
+    seat_here c.args.self.now seats c.args.who c.from.result seat (ap (λ (k : Core). k.seats) c.self.view_is) c.requires.0 c.from.ensures c.index_mut.ensures.value in
     let had : pins c.args.place seat ≡ true = ap (pins c.args.place) here ∙ c.in_ok-check_unpin.ensures.pinned in
     let within = pinned-within counts seats c.self.invariant.pinned (c.from.result - 1) seat c.args.place (search rules) (search rules) had in
     let counted : c.from-2.result < length counts = omega (arith, within, c.from-2.ensures) in
@@ -36,7 +36,7 @@ invariant_of-self c =
     let counts = c.self.inside.pinned.items in
     let seat = c.index_mut.result.now in
     let here : seat ≡ seat_at c.args.who c.args.self.now =
-    seat_here c.args.self.now seats c.args.who c.from.result seat (ap (λ (k : Core). k.seats) c.self.view_is) c.requires c.from.ensures c.index_mut.ensures.value in
+    seat_here c.args.self.now seats c.args.who c.from.result seat (ap (λ (k : Core). k.seats) c.self.view_is) c.requires.0 c.from.ensures c.index_mut.ensures.value in
     let had : pins c.args.place seat ≡ true = ap (pins c.args.place) here ∙ c.in_ok-check_unpin.ensures.pinned in
     let inside : c.from.result - 1 < length seats = search rules in
     let within = pinned-within counts seats c.self.invariant.pinned (c.from.result - 1) seat c.args.place inside (search rules) had in
