@@ -1,5 +1,5 @@
 -- Whether a session needs a place, by the tickets of the place.
-use Rattle.std.proofs.Common.{◌≡◌, ◌⊎◌, inl, inr, ℕ, zero, suc, ◌<◌, Bool, true, false, List, [], ◌∷◌, length, get_or, Option, Some, None, refl, sym, ap, subst, ◌∙◌, arith}
+use Rattle.std.proofs.Common.{◌≡◌, inl, inr, ℕ, zero, suc, Bool, true, false, List, [], ◌∷◌, Option, Some, None, refl, sym, ap, subst, ◌∙◌, arith}
 use Rattle.std.specs.Prelude.{◌||◌, ◌==◌, MatchOption}
 use Rattle.std.specs.List.{Contains, list_any}
 use Rattle.std.proofs.lemmas.Bool.Decides.{nat_tests}
@@ -7,11 +7,11 @@ use Rattle.mdl_book.specs.declared.ticket.Ticket.{Ticket}
 use Rattle.mdl_calls.specs.declared.answers.Held.{Held}
 use Rattle.mdl_calls.specs.declared.answers.Settled.TheVariants.{Granted}
 use Rattle.mdl_core.specs.declared.pending.Pending.{Pending}
-use Rattle.mdl_core.specs.Cores.{Core, book_at, has_key, has_session, seat_at}
+use Rattle.mdl_core.specs.Cores.{Core, book_at, has_key, seat_at}
 use Rattle.mdl_core.specs.CoreCalls.{is_needed, is_wait_at}
 use Rattle.mdl_core.specs.CoreJoins.{SpeaksFor}
-use Rattle.mdl_core.specs.Seats.{SeatView, ticket_of_wait}
-use Rattle.mdl_core.specs.Ties.{HasGrantedTicket, in_book_of}
+use Rattle.mdl_core.specs.Seats.{ticket_of_wait}
+use Rattle.mdl_core.specs.Ties.{in_book_of}
 
 same-number : (p q : ℕ) → (p == q) ≡ true → p ≡ q
 same-number p q same = grind (arith, nat_tests)

@@ -1,5 +1,5 @@
 -- The key is known with its place from now on, and the key that had the place no longer. If there is no memory for the pin, the key is taken out again.
-use Rattle.std.proofs.Common.{rules, ◌≡◌, ℕ, ◌+◌, ◌-◌, ◌<◌, None, Some, cond, length, false, sym, ap, subst, ◌∙◌}
+use Rattle.std.proofs.Common.{rules, ◌≡◌, ℕ, ◌+◌, ◌-◌, ◌<◌, None, Some, cond, length, sym, ap, subst, ◌∙◌}
 use Rattle.std.specs.Prelude.{slice_index_or, slice_set}
 use Rattle.std.specs.Map.{lookup}
 use Rattle.mdl_key.specs.Keys.{KeyName, key_eq}
