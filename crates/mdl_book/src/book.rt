@@ -263,6 +263,7 @@ impl Book {
 
     /// Returns the session and the number of the first waiting ticket, in order of arrival, whose session is in `unsettled`
     /// and that can be granted. `word` is the lock's word. A ticket may also have to wait behind one that arrived later.
+    #[inline]
     pub fn next_grantable(&self, word: Word, unsettled: &Sessions) -> Option<(u16, u64)>
         ensures exact { result ≡ option_map ticket_id (next_grantable word.0 unsettled.now self.now) }
         ensures counted { (fast : List Ticket) → CountsFastTickets (lock_kind self.now) word.0 fast → AreOfNoWaiter self.now fast
@@ -274,6 +275,7 @@ impl Book {
 
     /// Returns the ticket of which [`Book::next_grantable`] tells, after its index in the waiting list. [`Book::admit_at`]
     /// grants it without a search.
+    #[inline]
     pub fn next_grantable_at(&self, word: Word, unsettled: &Sessions) -> Option<(usize, Ticket)>
         ensures exact { result ≡ option_map (with_index (is_ready word.0 unsettled.now self.now) self.now.waiting) (next_grantable word.0 unsettled.now self.now) }
         ensures counted { (fast : List Ticket) → CountsFastTickets (lock_kind self.now) word.0 fast → AreOfNoWaiter self.now fast
