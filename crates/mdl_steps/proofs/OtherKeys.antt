@@ -11,7 +11,7 @@ use Rattle.mdl_steps.specs.declared.slot.Slot.TheVariants as slot
 
 -- where no version was, nothing is defined
 nothing_stands : (key : KeyName) (standing : VersionedDefinition) → MayStand key.namespace standing → standing.version ≡ 0 → standing ≡ nothing_yet
-nothing_stands key standing may none = λ i. record { version = none i; definition = may.unchanged none i }
+nothing_stands key standing may first = λ i. record { version = first i; definition = may.unchanged first i }
 
 module _ (slots id place : ℕ) (me : Mine) (some_number : 0 < me.0.number) (first : 0 < place) (last : place < slots)
     (key : KeyName) (k : Keys) (h : LatchRecord) (may : MayRename place key k h me) where

@@ -1,7 +1,7 @@
 -- Steps on the word of a place's pins: the cells of all places stay as they are.
-use Rattle.std.proofs.Common.{◌≡◌, ◌≢◌, ℕ, zero, suc, ◌+◌, ◌-◌, ◌*◌, ◌%◌, ◌^◌, ◌<◌, ◌≤◌, ◌==◌, ◌&&◌, ◌||◌, not, Bool, true, false, cond, List, [], ◌∷◌, ◌++◌, map, set, length, get_or, Some, None, refl, sym, ap, ◌∙◌, subst, inl, inr, arith, Option, count_by, length-set, get_or-set_other, get_or-set_same, eq-eqb, eqb-true}
+use Rattle.std.proofs.Common.{◌≡◌, ◌≢◌, ℕ, zero, suc, ◌+◌, ◌-◌, ◌*◌, ◌%◌, ◌^◌, ◌<◌, ◌≤◌, ◌==◌, ◌&&◌, ◌||◌, not, Bool, true, false, cond, List, [], ◌∷◌, ◌++◌, map, set, length, get_or, Some, None, refl, sym, ap, ◌∙◌, subst, inl, inr, arith, Option, count_by, length-set, get_or-set_other, get_or-set_same, eq-eqb, eqb-true, lt-ltb}
 use Rattle.mdl_key.specs.KeyLookups.{is_known}
-use Rattle.mdl_steps.proofs.FirstLemmas.{Allows, Desk, Each, HasNothingAt, HasNothingUnpinned, IdleHolds, IsUnpinned, KeyName, Keys, KnownKey, KnowsKeys, Makes, MayPin, MayUnpin, Mine, Numbered, PinsOk, PlaceOk, ReachedFor, Rule, Table, View, Waiter, WaitsAgree, after, and_parts, at_map, at_set, but_known, by_bool, cases_eq, cell, count_by-le-length, desk_of, each-filtered, enrol_word, filter, found_idle, get_elem?, goes_on, holder_at, is_pinned, is_some, keeps, key_at, latch_word, learnt, length_mapped, lock_word, map_kept, met_pins, none, none_passes, other, part_at, pin_count, pinned_at, pins_place, pins_word, reads_pins, some, step, unpinned_at, unpins_place, version_word, waiter_of, waits}
+use Rattle.mdl_steps.proofs.FirstLemmas.{Allows, Desk, Each, HasNothingAt, HasNothingUnpinned, IdleHolds, IsUnpinned, KeyName, Keys, KnownKey, KnowsKeys, Makes, MayPin, MayUnpin, Mine, Numbered, PinsOk, PlaceOk, ReachedFor, Rule, Table, View, Waiter, WaitsAgree, after, and_parts, at_map, at_set, but_known, by_bool, cases_eq, cell, count_by-le-length, desk_of, enrol_word, filter, found_idle, get_elem?, goes_on, holder_at, is_pinned, is_some, keeps, key_at, latch_word, learnt, length_mapped, lock_word, map_kept, met_pins, none, none_passes, other, part_at, pin_count, pinned_at, pins_place, pins_word, reads_pins, some, step, unpinned_at, unpins_place, version_word, waiter_of, waits}
 use Rattle.mdl_steps.proofs.Desks.{alone_desk, each-append, learnt_known}
 use Rattle.mdl_steps.proofs.PinLemmas.{count_set, pins_after}
 
@@ -24,6 +24,12 @@ forgotten_else place q [] else = refl
 forgotten_else place q (x ∷ xs) else = by_bool (x.place == place)
     (λ here. rw (here, other x.place q (λ e. else (sym e ∙ eqb-true x.place place here))) (forgotten_else place q xs else))
     (λ away. rw away (ap (λ (b : Bool). (x.place == q) || b) (forgotten_else place q xs else)))
+
+each_left : (P : KnownKey → Type 0) (p : KnownKey → Bool) (ks : List KnownKey) → Each P ks → Each P (filter p ks)
+each_left P p [] all = tt
+each_left P p (k ∷ ks) all = by_bool (p k)
+    (λ is. rw is (all.0, each_left P p ks all.1))
+    (λ isnt. rw isnt (each_left P p ks all.1))
 
 -- ---- what such a step changes: the view from v to w, but for what it has at places
 
@@ -196,7 +202,7 @@ module _ (slots id place : ℕ) (me : Mine) (first : 0 < place) (last : place < 
       own_key = record { key = key; place = place }
 
       learnt_is : learnt me place ≡ own_key ∷ []
-      learnt_is = rw (may.recorded, Rattle.std.proofs.Common.true-ltb 0 place first, may.key_is) refl
+      learnt_is = rw (may.recorded, lt-ltb 0 place first, may.key_is) refl
 
       known_is : more.known ≡ me.0.known ++ own_key ∷ []
       known_is = ap (λ (ks : List KnownKey). me.0.known ++ ks) learnt_is
@@ -281,18 +287,18 @@ module _ (slots id place : ℕ) (me : Mine) (first : 0 < place) (last : place < 
           (omega arith, omega arith)
 
       unpinned_then : (p : ℕ) → IsUnpinned p s.views → IsUnpinned p (set s.views id less)
-      unpinned_then p none j u at = elim (at_set s.views id j less u at) [
+      unpinned_then p all j u at = elim (at_set s.views id j less u at) [
         | inl e ↦ subst (λ (x : View). is_pinned p x ≡ false) e.1 (elim (cases_eq p place) [
           | inl here ↦ subst (λ (q : ℕ). is_pinned q less ≡ false) (sym here) unpinned_here
-          | inr else ↦ unpinned_else p else ∙ none id me.0 seat
+          | inr else ↦ unpinned_else p else ∙ all id me.0 seat
         ])
-        | inr e ↦ none j u e.1
+        | inr e ↦ all j u e.1
       ]
 
       unpinned_rule : Rule (after s (pins_word place) (found - 1) id less s.homes)
       unpinned_rule =
           on_pins s r place id me.0 less touched_less (found - 1)
-          (each-filtered _ (λ (x : KnownKey). not (x.place == place)) me.0.known (r.views id me.0 seat).1)
+          (each_left _ (λ (x : KnownKey). not (x.place == place)) me.0.known (r.views id me.0 seat).1)
           (record {
             counted = counts_else s r place id me.0 less touched_less (found - 1) unpinned_else
                 (let old : cond {A = ℕ} (is_pinned place me.0) 1 0 ≡ 1 = ap (λ (b : Bool). cond {A = ℕ} b 1 0) may.pinned in

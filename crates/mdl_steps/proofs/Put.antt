@@ -99,7 +99,7 @@ module _ (slots id place : ℕ) (me : Mine) (some_number : 0 < me.0.number) (fir
     nothing_done : is_pinned place me.0 ≡ false → HasNothingAt place me.0 → HasNothingAt place (all_done place ds me.0)
     nothing_done unpinned nothing = elim act [
       | inl k ↦ knows_no_less place me.0 k unpinned
-      | inr none ↦ subst (λ (xs : List Deed). HasNothingAt place (all_done place xs me.0)) (sym none) nothing
+      | inr idle ↦ subst (λ (xs : List Deed). HasNothingAt place (all_done place xs me.0)) (sym idle) nothing
     ]
 
     by_itself : (j : ℕ) (l : Holder) → get_elem? (cell s place).holders j ≡ some l → l.number ≡ (cell s place).latch → j ≡ id
