@@ -3,9 +3,8 @@ use Rattle.std.proofs.Common.{◌≡◌, ◌≢◌, ℕ, zero, suc, ◌+◌, ◌
 use Rattle.indexmap.specs.IndexSet.{insert_key}
 use Rattle.std.specs.List.{slice_index_or, swap_remove}
 use Rattle.std.specs.Prelude.{IfSome}
-use Rattle.mdl_steps.proofs.FirstLemmas.{Distinct, Each, KeyName, Keys, KnownKey, Slot, get_elem?, key_at, key_eq, place_among, some}
+use Rattle.mdl_steps.proofs.FirstLemmas.{Distinct, Each, KeyName, KnownKey, get_elem?, key_at, key_eq, place_among, some}
 use Rattle.mdl_steps.proofs.Looking.{goes_last}
-use Rattle.mdl_steps.specs.declared.slot.Slot.TheVariants as slot
 
 -- ---- the key at a place
 
@@ -81,17 +80,3 @@ put_there keys more left place key (Some k) new first last inserted got removed 
 put_there keys more left place key None new first last inserted got removed =
     let at_end : more ≡ keys ++ key ∷ [] = inserted ∙ goes_last key keys new in
     absurd (some_there keys (place - 1) key (omega arith) (sym (got ∙ ap (λ (l : List KeyName). slice_get l (place - 1)) at_end)))
-
--- ---- the directory in hand
-
--- the first slot in hand is one
-pub one_directory : {p q : ℕ} {a b : Keys} {xs ys : List (ℕ × Slot)} → ◌≡◌ {A = List (ℕ × Slot)} ((p, slot.Directory a) ∷ xs) ((q, slot.Directory b) ∷ ys) → a ≡ b
-one_directory {a = a} {b = b} e = ap first_keys e
-  where
-    keys_of : Slot → Keys
-    keys_of (slot.Place x) = a
-    keys_of (slot.Directory x) = x
-
-    first_keys : List (ℕ × Slot) → Keys
-    first_keys [] = a
-    first_keys (x ∷ xs) = keys_of x.1

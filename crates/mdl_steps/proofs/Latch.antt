@@ -139,7 +139,10 @@ module _ (slots id place : ℕ) (me : Mine) (some_number : 0 < me.0.number) (fir
           (all_fast-own test (cell s place).parts id (part_at (waits s) place me.0) (at_map (part_at (waits s) place) s.views id me.0 seat)
           (and_parts (list_all test fast) (list_all test ok.book.granted) (sym (list_all-append test fast ok.book.granted) ∙ ok.book_ok.lawful.compatible)).0));
       unmixed = (r.views id me.0 seat).0.unmixed;
-      unpinned = λ idle. no_tickets s r place (r.pins_ok.idle id me.0 seat place idle).1 (key_at r.keys place) (cell s place).version ok.book ok.book_ok;
+      unpinned = λ idle.
+          let unpinned = (r.pins_ok.idle id me.0 seat place idle).1 in
+          let empty = no_tickets s r place unpinned (key_at r.keys place) (cell s place).version ok.book ok.book_ok in
+          (empty.0, empty.1, unpinned id me.0 seat);
     }
 
     numbered : (w : View) → w.next ≡ me.0.next → w.fast ≡ me.0.fast → w.slow ≡ me.0.slow → w.asks ≡ me.0.asks → Numbered w

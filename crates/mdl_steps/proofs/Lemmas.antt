@@ -15,6 +15,7 @@ pub use Rattle.mdl_steps.proofs.OtherKeys.{puts_other_key_allowed}
 pub use Rattle.mdl_steps.proofs.SchemaLemmas.{new_stand, tables_more, tables_stand}
 pub use Rattle.mdl_steps.proofs.Seating.{sits, value_is}
 pub use Rattle.mdl_steps.proofs.Served.{puts_served_allowed, unfiltered}
+pub use Rattle.mdl_steps.proofs.Unpinned.{unpinned_empty}
 pub use Rattle.mdl_steps.proofs.VersionReads.{finds_version_allowed, reads_version_allowed}
 pub use Rattle.mdl_steps.proofs.WaitEnds.{ends_granted_allowed, ends_lost_allowed, gone_rule, opened_rule, opens_allowed, own_at-push, taken_rule}
 pub use Rattle.mdl_steps.proofs.WaitHands.{elsewhere_changed, holds_changed}

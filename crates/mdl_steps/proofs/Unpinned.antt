@@ -1,6 +1,6 @@
 -- Where no session pins a place, none has anything there: the book has no ticket, and the word counts none.
 use Rattle.std.proofs.Common.{◌≡◌, ◌≢◌, ℕ, zero, suc, ◌<◌, List, [], ◌∷◌, ◌++◌, map, length, Some, None, refl, sym, ap, ◌∙◌, subst, Option, eq-eqb}
-use Rattle.mdl_steps.proofs.FirstLemmas.{Ask, Asking, BookOk, BookView, HasNothingAt, IsUnpinned, KeyName, Owned, Part, Rule, Table, Ticket, View, all_fast, asking_at, at_unmap, cell, due, get_elem?, option_to_list, other, own_at, part_at, pending, some, ticket_by, ticket_of, waits}
+use Rattle.mdl_steps.proofs.FirstLemmas.{Ask, Asking, BookOk, BookView, HasNothingAt, IsUnpinned, KeyName, Owned, Part, Rule, Table, Ticket, View, all_fast, asking_at, at_unmap, cell, due, get_elem?, key_at, option_to_list, other, own_at, part_at, pending, some, ticket_by, ticket_of, waits}
 
 -- a session that waits elsewhere waits for nothing here
 pub asks_away : (place n word : ℕ) (asks : Option Ask) → ((a : Ask) → asks ≡ Some a → a.place ≢ place) → asking_at place n word asks ≡ None
@@ -48,3 +48,11 @@ module _ (s : Table) (r : Rule s) (place : ℕ) (unpinned : IsUnpinned place s.v
         let nothing = nothing_in j x at in
         ok.waiting.same j x at number ∙ ap (λ (o : Option Asking). ticket_of x.number number (option_to_list (pending o))) nothing.0),
   )
+
+-- so the place is empty
+pub unpinned_empty : (s : Table) (r : Rule s) (place : ℕ) (first : 0 < place) (last : place < length s.homes) → IsUnpinned place s.views
+    → (all_fast (cell s place).parts ≡ []) × ((r.places place first last).book.granted ≡ []) × ((r.places place first last).book.waiting ≡ [])
+unpinned_empty s r place first last unpinned =
+    let ok = r.places place first last in
+    let empty = no_tickets s r place unpinned (key_at r.keys place) (cell s place).version ok.book ok.book_ok in
+    (no_fast s r place unpinned, empty.0, empty.1)

@@ -2,7 +2,7 @@
 -- added to the session's list of steps: its kind, what the session did to its own tickets, its word, the value of the word before, and the
 -- records of the latches that the session held.
 use Rattle.std.specs.Prelude.{◌≡◌, ◌≢◌, ℕ, ◌+◌, ◌-◌, ◌<◌, ◌≤◌, ◌==◌, not, Bool, true, false, ◌&&◌, ◌||◌, List, [], ◌∷◌, ◌++◌, map, filter, length, slice_set, Some, None, if◌then◌else◌}
-use Rattle.mdl_steps.specs.FirstWords.{AreUnmixed, Ask, BookView, Deed, Distinct, Each, IsLost, IsUnused, KeyName, Keys, KnownKey, KnowsKeys, LatchRecord, MayStand, Me, NotWaited, NoteAgrees, Once, ReadAgrees, SessionTicket, Slot, Step, StepKind, TellsLists, Ticket, VersionedDefinition, View, all_but_flags, all_done, flags_alone, frees, get_elem?, is_compatible, is_lawful, is_mode_of, is_obtrusive, key_at, latch_word, list_all, lock_kind, lock_word, most_fast, option_map, own_at, reads_at, rest, some, ticket_by, ticket_of, version_word}
+use Rattle.mdl_steps.specs.FirstWords.{AreUnmixed, Ask, BookView, Deed, Distinct, Each, IsLost, IsUnused, KeyName, Keys, KnownKey, KnowsKeys, LatchRecord, MayStand, Me, NotWaited, NoteAgrees, Once, ReadAgrees, SessionTicket, Slot, Step, StepKind, TellsLists, Ticket, VersionedDefinition, View, all_but_flags, all_done, flags_alone, frees, get_elem?, is_compatible, is_lawful, is_mode_of, is_obtrusive, is_pinned, key_at, latch_word, list_all, lock_kind, lock_word, most_fast, option_map, own_at, reads_at, rest, some, ticket_by, ticket_of, version_word}
 use Rattle.mdl_steps.specs.declared.slot.Slot.TheVariants as slot
 use Rattle.mdl_steps.specs.declared.step_kind.StepKind.TheVariants as step
 
@@ -29,7 +29,7 @@ logged kind ds word found held v =
 --   definition, and each version noted under its tickets here is this one.
 -- * Its fast tickets here are at most `most_fast`, in unobtrusive modes, and compatible with the granted tickets of other sessions.
 -- * No slow ticket has the number of a fast ticket at the same place.
--- * If the session found the place unpinned, the book has no ticket.
+-- * If the session found the place unpinned, the book has no ticket, and the session doesn't pin the place.
 pub record IsFresh (place : ℕ) (h : LatchRecord) (m : Mine) : Type 0 where
   pub here : h.place ≡ place
   pub exact : TellsLists h.book h.slow h.obtrusive
@@ -56,7 +56,7 @@ pub record IsFresh (place : ℕ) (h : LatchRecord) (m : Mine) : Type 0 where
   pub fast_plain : Each (λ (t : SessionTicket). not (is_obtrusive (lock_kind h.book) t.mode) ≡ true) (own_at place m.0.fast)
   pub fast_beside : Each (λ (t : SessionTicket). is_compatible (lock_kind h.book) h.book.granted m.0.number t.mode ≡ true) (own_at place m.0.fast)
   pub unmixed : AreUnmixed m.0.fast m.0.slow
-  pub unpinned : m.0.idle ≡ Some place → (h.book.granted ≡ []) × (h.book.waiting ≡ [])
+  pub unpinned : m.0.idle ≡ Some place → (h.book.granted ≡ []) × (h.book.waiting ≡ []) × (is_pinned place m.0 ≡ false)
 
 -- the record with the chosen flags raised
 abbrev pub raised : Bool → Bool → LatchRecord → LatchRecord

@@ -245,6 +245,13 @@ impl FindingVersion for Brand {
     ghost kept = { [] };
 }
 
+/// A cache that keeps nothing.
+pub(crate) struct NothingKept;
+
+impl FindingVersion for NothingKept {
+    ghost kept = { [] };
+}
+
 /// A version is read without the latch, and looked up in a cache.
 pub(crate) struct FindVersion<J: FindingVersion> {
     marker: PhantomData<J>,

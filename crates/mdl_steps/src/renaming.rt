@@ -4,15 +4,17 @@
 //! and looks at the version in the book: only a place of version 0 may get another key, since no definition was ever read there. It
 //! exchanges the key in the directory in hand ([`TableSeat::exchange_key`]), writes the key's empty book ([`TableSeat::name_book`]), and
 //! gives the place's latch back, which gives the place to the key ([`TableSeat::put_latch_renaming`]).
-ghost use Rattle.std.specs.Prelude.{◌≡◌, ◌∷◌, ◌<◌, ◌≤◌, length, None, OnOk, OnErr};
+ghost use Rattle.std.specs.Prelude.{◌≡◌, ◌∷◌, ◌<◌, ◌≤◌, [], length, None, OnOk, OnErr};
+ghost use Rattle.mdl_book.specs.declared.book_view.BookView.{BookView};
 ghost use Rattle.mdl_key.specs.Words.{KeyName};
 ghost use Rattle.mdl_steps.specs.declared.slot.Slot.TheVariants as slot;
 ghost use Rattle.mdl_steps.specs.declared.view.LatchRecord.{LatchRecord};
 ghost use Rattle.mdl_steps.specs.declared.view.Keys.{Keys};
 ghost use Rattle.mdl_steps.specs.Plays.{exchanging, renamed};
 ghost use Rattle.mdl_steps.specs.SeatStates.{OfBook};
-ghost use Rattle.mdl_steps.specs.Seats.{IsPlace, MayRename, place_among, rest};
+ghost use Rattle.mdl_steps.specs.Seats.{IsPlace, MayRename, place_among};
 
+use crate::Directory;
 use crate::directory::LatchedDirectory;
 use crate::hand::directory_in_hand;
 use crate::layout::latch_word;
@@ -21,25 +23,40 @@ use crate::table_seat::{Latched, TableSeat};
 use mdl_key::Key;
 use std::alloc::AllocError;
 
-impl TableSeat {
-    /// Gives a place to a key that has none, in the directory in hand. The directory's latch can't be given back before the place's book is
-    /// that of the key ([`TableSeat::put_latch_renaming`]).
-    pub fn exchange_key(
-        &mut self,
-        _latch: &LatchedDirectory,
-        place: usize,
-        key: Key,
-    ) -> Result<(), AllocError>
-        requires new { (k : Keys) × (self.old.me.1 ≡ (0, slot.Directory k) ∷ rest self.old.me.1) × (place_among key k.keys ≡ None)
-            × (0 < place) × (place ≤ length k.keys) }
-        ensures exchanged { (k : Keys) → self.old.me.1 ≡ (0, slot.Directory k) ∷ rest self.old.me.1
-            → OnOk result (self.new ≡ record self.old { me = (self.old.me.0, (0, slot.Directory (exchanging place key k)) ∷ rest self.old.me.1) }) }
+impl Directory {
+    // Gives a place to a key that has none. The key goes last, and falls into the place of the one that is removed.
+    fn exchange(&mut self, place: usize, key: Key) -> Result<(), AllocError>
+        requires new { place_among key self.old.keys ≡ None }
+        requires place { (0 < place) × (place ≤ length self.old.keys) }
+        ensures exchanged { OnOk result (self.new ≡ exchanging place key self.old) }
         ensures unchanged { OnErr result (self.new ≡ self.old) }
     {
-        let directory = directory_in_hand(&mut self.seat, &self.table.shared);
-        directory.keys.insert(key)?;
-        directory.keys.swap_remove_index(place - 1);
+        self.keys.insert(key)?;
+        self.keys.swap_remove_index(place - 1);
         Ok(())
+    }
+}
+
+impl TableSeat {
+    /// Gives the place whose latch was taken last to a key that has none, in the directory in hand. The directory's latch can't be given back
+    /// before the place's book is that of the key ([`TableSeat::put_latch_renaming`]).
+    pub fn exchange_key(
+        &mut self,
+        latch: &Latched,
+        _directory: &LatchedDirectory,
+        key: Key,
+    ) -> Result<(), AllocError>
+        requires new { (k : Keys) × (book : BookView) × (self.old.me.1 ≡ (latch.now.place, slot.Place book) ∷ (0, slot.Directory k) ∷ [])
+            × (place_among key k.keys ≡ None) × (0 < latch.now.place) × (latch.now.place ≤ length k.keys) }
+        ensures exchanged { (k : Keys) (book : BookView) → self.old.me.1 ≡ (latch.now.place, slot.Place book) ∷ (0, slot.Directory k) ∷ []
+            → OnOk result (self.new ≡ record self.old { me = (self.old.me.0, (latch.now.place, slot.Place book) ∷ (0, slot.Directory (exchanging latch.now.place key k)) ∷ []) }) }
+        ensures unchanged { OnErr result (self.new ≡ self.old) }
+    {
+        self.seat.turn();
+        let directory = directory_in_hand(&mut self.seat, &self.table.shared);
+        let exchanged = directory.exchange(latch.place, key);
+        self.seat.turn();
+        exchanged
     }
 
     /// Gives the latch of a place back, and gives the place to the key of the book in hand. By the directory in hand it is the key of the

@@ -6,7 +6,7 @@ ghost use Rattle.mdl_steps.specs.VersionPlays.{found_version, met_version, noted
 ghost use Rattle.mdl_steps.specs.Seats.{IsPlace};
 
 use crate::layout::version_word;
-use crate::plays::{FindVersion, FindingVersion, ReadVersion};
+use crate::plays::{FindVersion, FindingVersion, NothingKept, ReadVersion};
 use crate::table_seat::TableSeat;
 use mdl_defs::DefCache;
 use std::marker::Brand;
@@ -39,6 +39,16 @@ impl TableSeat {
         ensures fits { ReadWhatFits place result self.old.me }
     {
         self.read_version_as::<Brand>(place, cache)
+    }
+
+    /// Looks at the version of a place, without the latch. The session notes nothing by it.
+    pub fn peek_version(&mut self, place: usize) -> u64
+        requires place { IsPlace self.old.table place }
+        ensures met { self.new ≡ record self.old { me = met_version place result self.old.me } }
+    {
+        self.table
+            .shared
+            .load::<FindVersion<NothingKept>>(&mut self.seat, version_word(place))
     }
 
     fn read_version_as<J: FindingVersion>(&mut self, place: usize, _cache: &DefCache) -> u64
