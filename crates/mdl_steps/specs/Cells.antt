@@ -163,6 +163,7 @@ blank number spare = record {
   latches = [];
   directory = None;
   known = [];
+  idle = None;
   reads = [];
   owes = [];
   searches = false;

@@ -14,6 +14,10 @@ lock_word place = 8 * place + 1
 abbrev pub version_word : ℕ → ℕ
 version_word place = 8 * place + 2
 
+-- the word with the number of sessions that pin a place
+abbrev pub pins_word : ℕ → ℕ
+pins_word place = 8 * place + 3
+
 -- the word with the number that the next session gets, in a table with `slots` slots
 abbrev pub enrol_word : ℕ → ℕ
 enrol_word slots = 8 * slots

@@ -11,6 +11,8 @@ pub mod Layout
 pub mod Limits
 pub mod Lists
 pub mod Openings
+pub mod PinPlays
+pub mod Pins
 pub mod Plays
 pub mod Rule
 pub mod RuleLaws

@@ -1,7 +1,7 @@
 -- What a session knows after each kind of step, given the step, the seat before it, and the value that the step found in its word. Each step is
 -- added to the session's list of steps: its kind, what the session did to its own tickets, its word, the value of the word before, and the
 -- records of the latches that the session held.
-use Rattle.std.specs.Prelude.{◌≡◌, ◌≢◌, ℕ, ◌+◌, ◌-◌, ◌<◌, ◌≤◌, ◌==◌, not, Bool, true, false, ◌&&◌, ◌||◌, List, [], ◌∷◌, ◌++◌, map, filter, length, Some, None, if◌then◌else◌}
+use Rattle.std.specs.Prelude.{◌≡◌, ◌≢◌, ℕ, ◌+◌, ◌-◌, ◌<◌, ◌≤◌, ◌==◌, not, Bool, true, false, ◌&&◌, ◌||◌, List, [], ◌∷◌, ◌++◌, map, filter, length, slice_set, Some, None, if◌then◌else◌}
 use Rattle.mdl_steps.specs.FirstWords.{AreUnmixed, Ask, BookView, Deed, Distinct, Each, IsLost, IsUnused, KeyName, Keys, KnownKey, KnowsKeys, LatchRecord, MayStand, Me, NotWaited, NoteAgrees, Once, ReadAgrees, SessionTicket, Slot, Step, StepKind, TellsLists, Ticket, VersionedDefinition, View, all_but_flags, all_done, flags_alone, frees, get_elem?, is_compatible, is_lawful, is_mode_of, is_obtrusive, key_at, latch_word, list_all, lock_kind, lock_word, most_fast, option_map, own_at, reads_at, rest, some, ticket_by, ticket_of, version_word}
 use Rattle.mdl_steps.specs.declared.slot.Slot.TheVariants as slot
 use Rattle.mdl_steps.specs.declared.step_kind.StepKind.TheVariants as step
@@ -29,6 +29,7 @@ logged kind ds word found held v =
 --   definition, and each version noted under its tickets here is this one.
 -- * Its fast tickets here are at most `most_fast`, in unobtrusive modes, and compatible with the granted tickets of other sessions.
 -- * No slow ticket has the number of a fast ticket at the same place.
+-- * If the session found the place unpinned, the book has no ticket.
 pub record IsFresh (place : ℕ) (h : LatchRecord) (m : Mine) : Type 0 where
   pub here : h.place ≡ place
   pub exact : TellsLists h.book h.slow h.obtrusive
@@ -55,6 +56,7 @@ pub record IsFresh (place : ℕ) (h : LatchRecord) (m : Mine) : Type 0 where
   pub fast_plain : Each (λ (t : SessionTicket). not (is_obtrusive (lock_kind h.book) t.mode) ≡ true) (own_at place m.0.fast)
   pub fast_beside : Each (λ (t : SessionTicket). is_compatible (lock_kind h.book) h.book.granted m.0.number t.mode ≡ true) (own_at place m.0.fast)
   pub unmixed : AreUnmixed m.0.fast m.0.slow
+  pub unpinned : m.0.idle ≡ Some place → (h.book.granted ≡ []) × (h.book.waiting ≡ [])
 
 -- the record with the chosen flags raised
 abbrev pub raised : Bool → Bool → LatchRecord → LatchRecord
@@ -165,9 +167,9 @@ pub record IsDirectory (slots : ℕ) (k : Keys) (m : Mine) : Type 0 where
 abbrev pub consulted : Keys → Mine → Mine
 consulted k m = (logged step.TakeLatch [] (latch_word 0) 0 m.0.latches (record m.0 { directory = Some k }), (0, slot.Directory k) ∷ m.1)
 
--- the directory's latch was given back, and the session knows these keys, too. The step in the list has the directory's record
-abbrev pub informed : List KnownKey → Mine → Mine
-informed more m = (record (logged step.PutLatch [] (latch_word 0) m.0.number m.0.latches m.0) { directory = None; known = m.0.known ++ more }, rest m.1)
+-- the directory's latch was given back. The step in the list has the directory's record
+abbrev pub dismissed : Mine → Mine
+dismissed m = (record (logged step.PutLatch [] (latch_word 0) m.0.number m.0.latches m.0) { directory = None; idle = None }, rest m.1)
 
 -- the directory with one more key, for the place after all others
 abbrev pub listing : KeyName → Keys → Keys
@@ -179,6 +181,16 @@ named place key m =
     let v = dropped place m.0 in
     (logged step.PutLatch [] (latch_word place) m.0.number m.0.latches (record v { directory = option_map (listing key) m.0.directory }), rest m.1)
 
+-- the directory with another key for a place
+abbrev pub exchanging : ℕ → KeyName → Keys → Keys
+exchanging place key k = record { keys = slice_set k.keys (place - 1) key }
+
+-- the latch of a place was given back with the book of another key, and the directory's record has that key there from then on
+abbrev pub renamed : ℕ → KeyName → Mine → Mine
+renamed place key m =
+    let v = dropped place m.0 in
+    (logged step.PutLatch [] (latch_word place) m.0.number m.0.latches (record v { directory = option_map (exchanging place key) m.0.directory }), rest m.1)
+
 -- ---- the kinds of step: the session keeps its number
 
 -- the directory's latch is taken if it was free, otherwise it is found taken
@@ -189,9 +201,9 @@ takes_directory st m found m′ =
     (found ≡ 0 → (k : Keys) × IsDirectory st.slots k m × (m′ ≡ consulted k m))
     × (found ≢ 0 → m′ ≡ missed_latch 0 found m))
 
--- the directory's latch is given back, and the session knows these keys, too
-abbrev pub puts_directory : List KnownKey → Step Slot → Mine → ℕ → Mine → Type 0
-puts_directory more st m found m′ = (m′.0.number ≡ m.0.number) × (st.word ≡ latch_word 0 → m′ ≡ informed more m)
+-- the directory's latch is given back
+abbrev pub puts_directory : Step Slot → Mine → ℕ → Mine → Type 0
+puts_directory st m found m′ = (m′.0.number ≡ m.0.number) × (st.word ≡ latch_word 0 → m′ ≡ dismissed m)
 
 -- the latch of a place is taken if it was free, otherwise it is found taken
 abbrev pub takes_latch : Step Slot → Mine → ℕ → Mine → Type 0
@@ -229,6 +241,13 @@ puts_key st m found m′ =
     (m′.0.number ≡ m.0.number)
     × ((place : ℕ) (book : BookView) → st.word ≡ latch_word place → m.1 ≡ (place, slot.Place book) ∷ rest m.1 →
     m′ ≡ named place book.key m)
+
+-- the latch of a place is given back with the book of another key in hand, and that key has the place from then on
+abbrev pub puts_other_key : Step Slot → Mine → ℕ → Mine → Type 0
+puts_other_key st m found m′ =
+    (m′.0.number ≡ m.0.number)
+    × ((place : ℕ) (book : BookView) → st.word ≡ latch_word place → m.1 ≡ (place, slot.Place book) ∷ rest m.1 →
+    m′ ≡ renamed place book.key m)
 
 -- flags of a place's word are raised, by `|` with the number that has only their bits
 abbrev pub raises_flags : Step Slot → Mine → ℕ → Mine → Type 0

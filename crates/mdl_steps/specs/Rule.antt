@@ -15,6 +15,7 @@
 -- It says of the whole table:
 -- * Different keys have different places (`distinct`), the directory has them (`directory_agrees`), and the book of a place is that of its key (`named`).
 -- * A session's wait word has the number of its last wait, and a state that is idle exactly if the session waits for nothing (`waits_agree`).
+-- * The word of each place's pins counts the sessions that know the place's key. What a session has is at places whose keys it knows (`pins_ok`).
 -- * Sessions have different numbers (`enrolled`). A session's ticket numbers are below its next one, and what it knows of keys is true (`views`).
 use Rattle.std.specs.Prelude.{◌≡◌, ◌≢◌, ℕ, ◌+◌, ◌-◌, ◌<◌, ◌≤◌, Bool, true, false, not, List, [], ◌++◌, map, length, slice_index, slice_get, Option, Some, None}
 use Rattle.mdl_steps.specs.Prelude.{Ask, BookView, CountsFastTickets, CoversFastTickets, Encodes, KeyName, Keys, Kind, KnownKey, LatchRecord, MayStand, Maybe, Reading, SessionTicket, Slot, Spare, State, Ticket, View, get_elem?, has_obtrusive, has_tickets, is_lawful, is_mode_of, is_obtrusive, list_all, lock_kind, nothing_yet, option_to_list, some, ticket_of}
@@ -22,6 +23,7 @@ use Rattle.mdl_steps.specs.Cells.{Part, Holder, Desk, Cell, Waiter, ticket_by, d
 use Rattle.mdl_steps.specs.Layout.{latch_word, enrol_word, word_count}
 use Rattle.mdl_steps.specs.Limits.{most_enrolled, most_fast}
 use Rattle.mdl_steps.specs.Lists.{Each, Distinct, Once}
+use Rattle.mdl_steps.specs.Pins.{PinsOk, pin_count}
 use Rattle.mdl_steps.specs.WaitStates.{IsSettled, IsState, idle_state, wait_number, wait_state}
 use Rattle.mdl_steps.specs.declared.slot.Slot.TheVariants as slot
 
@@ -221,4 +223,5 @@ pub record Rule (s : State Slot View) : Type 0 where
   pub directory_agrees : DirectoryOk (slice_index s.words (latch_word 0)) (get_elem? s.homes 0) (map desk_of s.views) keys
   pub waits_agree : WaitsAgree (length s.homes) most (waits s) (map waiter_of s.views)
   pub views : (j : ℕ) (v : View) → get_elem? s.views j ≡ some v → Numbered v × KnowsKeys keys v
+  pub pins_ok : PinsOk (length s.homes) (pin_count s) s.views
   pub places : (p : ℕ) → 0 < p → p < length s.homes → PlaceOk (key_at keys p) (cell s p)

@@ -1,6 +1,7 @@
 -- What follows from the rule of the table, in plainer terms. The rule holds between any two steps of all sessions.
 use Rattle.std.specs.Prelude.{◌≡◌, ◌≢◌, ℕ, ◌<◌, true, List, ◌++◌, length, slice_index, Some, None}
-use Rattle.mdl_steps.specs.FirstWords.{Ask, BookView, Counted, Flagged, IsState, LatchRecord, Reading, Rule, SessionTicket, Slot, State, Ticket, View, all_fast, cell, get_elem?, granted_state, has_obtrusive, has_tickets, held_at, idle_state, is_lawful, latch_word, lock_kind, lock_word, some, ticket_of, version_word, wait_number, wait_state, waits}
+use Rattle.mdl_steps.specs.FirstWords.{Ask, BookView, Counted, Flagged, IsState, KnownKey, LatchRecord, Reading, Rule, SessionTicket, Slot, State, Ticket, View, all_fast, cell, get_elem?, granted_state, has_obtrusive, has_tickets, held_at, idle_state, is_lawful, is_pinned, latch_word, lock_kind, lock_word, pin_count, some, ticket_of, version_word, wait_number, wait_state, waits}
+use Rattle.mdl_steps.specs.Prelude.{count_by}
 use Rattle.mdl_steps.specs.declared.slot.Slot.TheVariants as slot
 
 -- the fast tickets of all sessions at a place
@@ -36,6 +37,20 @@ abbrev pub TakenLatchesAreHeld : Type 0
 TakenLatchesAreHeld =
     (s : State Slot View) → Rule s → (place : ℕ) → 0 < place → place < length s.homes → slice_index s.words (latch_word place) ≢ 0 →
     (i : ℕ) × (v : View) × (h : LatchRecord) × (get_elem? s.views i ≡ some v) × (held_at place v.latches ≡ Some h) × (slice_index s.words (latch_word place) ≡ v.number)
+
+-- the word of a place's pins is the number of sessions that know the place's key
+abbrev pub PinsAreCounted : Type 0
+PinsAreCounted =
+    (s : State Slot View) → Rule s → (place : ℕ) → 0 < place → place < length s.homes → pin_count s place ≡ count_by (is_pinned place) s.views
+
+-- a place that a session pins has the key that the session knows: it is the key of the book in the slot while the latch is free, and otherwise of the
+-- book in the record of the session that holds the latch
+abbrev pub PinnedPlacesHaveTheirKeys : Type 0
+PinnedPlacesHaveTheirKeys =
+    (s : State Slot View) → Rule s → (i : ℕ) (v : View) → get_elem? s.views i ≡ some v →
+    (n : ℕ) (k : KnownKey) → get_elem? v.known n ≡ some k → k.place < length s.homes →
+    (slice_index s.words (latch_word k.place) ≡ 0 → (book : BookView) × (get_elem? s.homes k.place ≡ some (some (slot.Place book))) × (book.key ≡ k.key))
+    × ((j : ℕ) (w : View) (h : LatchRecord) → get_elem? s.views j ≡ some w → held_at k.place w.latches ≡ Some h → h.book.key ≡ k.key)
 
 -- a version that a session noted under a ticket is the current one as long as the session has the ticket
 abbrev pub NotedVersionsStand : Type 0

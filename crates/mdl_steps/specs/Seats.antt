@@ -98,5 +98,16 @@ abbrev pub learnt : Mine → ℕ → List KnownKey
 learnt m place = option_to_list (option_map (λ key. record { key = key; place = place }) (recorded_key m.0.directory place))
 
 -- the seat may give the directory's latch back
-abbrev pub MayInform : Mine → Type 0
-MayInform m = (k : Keys) × HasDirectory k m
+abbrev pub MayDismiss : Mine → Type 0
+MayDismiss m = (k : Keys) × HasDirectory k m
+
+-- the seat may give the latch of a place back, and the place to another key: it found the place unpinned, no definition ever stood there, the empty
+-- book of the key is in hand, and the flags are up exactly if that book needs them. Nothing was freed under the latch
+pub record MayRename (place : ℕ) (key : KeyName) (k : Keys) (h : LatchRecord) (m : Mine) : Type 0 where
+  pub key_is : IsNewKey key k m
+  pub listed : place ≤ length k.keys
+  pub idle : m.0.idle ≡ Some place
+  pub holds : Holds place h (empty_book key) m
+  pub unversioned : h.book.standing.version ≡ 0
+  pub exact : TellsLists (empty_book key) h.slow h.obtrusive
+  pub unfreed : h.freed ≡ false

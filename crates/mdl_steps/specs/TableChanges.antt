@@ -2,10 +2,11 @@
 -- and if its session may make it. The rule of the table admits only whole steps.
 use Rattle.std.specs.Prelude.{◌≡◌, ◌≢◌, ℕ, ◌+◌, ◌-◌, ◌%◌, ◌^◌, ◌<◌, ◌≤◌, Bool, false, List, [], ◌∷◌, ◌++◌, length, Option, Some, slice_index, slice_set}
 use Rattle.atomic_table.specs.Table.{stepped}
-use Rattle.mdl_steps.specs.FirstWords.{Act, Ask, Deed, Kept, KeyName, Keys, KnownKey, LatchRecord, Loss, Mode, Slot, State, Step, TableId, Valid, View, all_but_flags, blank, carried_after, enrol_word, flags_alone, get_elem?, gives, granted_state, held_at, idle_state, keeps, latch_word, lock_word, lost_state, no_numbers, obtrusive_flag, some, standing_after, takes, unsettled_state, version_word, wait_in, wait_word}
+use Rattle.mdl_steps.specs.FirstWords.{Act, Ask, Deed, Kept, KeyName, Keys, LatchRecord, Loss, Mode, Slot, State, Step, TableId, Valid, View, all_but_flags, blank, carried_after, enrol_word, flags_alone, get_elem?, gives, granted_state, held_at, idle_state, keeps, latch_word, lock_word, lost_state, no_numbers, obtrusive_flag, pins_word, some, standing_after, takes, unsettled_state, version_word, wait_in, wait_word}
 use Rattle.mdl_steps.specs.FastPlays.{MayGrantFast, MayMaterialise, MayReleaseFast, grants_fast, materialises, reads_word_unlatched, releases_fast}
-use Rattle.mdl_steps.specs.Plays.{Mine, enrols, lowers_flags, puts_directory, puts_key, puts_latch, puts_reading, puts_searched, puts_served, raises_flags, reads_word, takes_directory, takes_latch, writes_version}
-use Rattle.mdl_steps.specs.Seats.{MayInform, MayLower, MayName, MayPut, MayWriteVersion}
+use Rattle.mdl_steps.specs.PinPlays.{MayPin, MayUnpin, pins_place, reads_pins, unpins_place}
+use Rattle.mdl_steps.specs.Plays.{Mine, enrols, lowers_flags, puts_directory, puts_key, puts_latch, puts_other_key, puts_reading, puts_searched, puts_served, raises_flags, reads_word, takes_directory, takes_latch, writes_version}
+use Rattle.mdl_steps.specs.Seats.{MayDismiss, MayLower, MayName, MayPut, MayRename, MayWriteVersion}
 use Rattle.mdl_steps.specs.Servings.{MayServe}
 use Rattle.mdl_steps.specs.Sights.{SeesNoDeadlock}
 use Rattle.mdl_steps.specs.VersionPlays.{finds_version, reads_version}
@@ -19,7 +20,7 @@ use Rattle.mdl_steps.specs.WaitSeats.{MayCancel, MayGrant, MayOpen}
 pub data Makes (st : Step Slot) (m : Mine) (found : ℕ) (m′ : Mine) : Type 0 where
   DrawsNumber : enrols st m found m′ → Makes st m found m′
   TakesDirectory : st.word ≡ latch_word 0 → takes_directory st m found m′ → Makes st m found m′
-  PutsDirectory : (more : List KnownKey) → st.word ≡ latch_word 0 → puts_directory more st m found m′ → Makes st m found m′
+  PutsDirectory : st.word ≡ latch_word 0 → puts_directory st m found m′ → Makes st m found m′
   TakesLatch : (place : ℕ) → st.word ≡ latch_word place → takes_latch st m found m′ → Makes st m found m′
   PutsLatch : (place : ℕ) (deeds : List Deed) → MayPut place deeds m →
       st.word ≡ latch_word place → puts_latch deeds st m found m′ → Makes st m found m′
@@ -28,6 +29,8 @@ pub data Makes (st : Step Slot) (m : Mine) (found : ℕ) (m′ : Mine) : Type 0 
   PutsSearched : (place : ℕ) → MayPut place [] m → SeesNoDeadlock st.slots m → st.word ≡ latch_word place → puts_searched st m found m′ → Makes st m found m′
   PutsKey : (place : ℕ) (key : KeyName) (k : Keys) (h : LatchRecord) → MayName place key k h m →
       st.word ≡ latch_word place → puts_key st m found m′ → Makes st m found m′
+  PutsOtherKey : (place : ℕ) (key : KeyName) (k : Keys) (h : LatchRecord) → MayRename place key k h m →
+      st.word ≡ latch_word place → puts_other_key st m found m′ → Makes st m found m′
   RaisesFlags : (place : ℕ) (slow obtrusive : Bool) →
       st.word ≡ lock_word place → st.first ≡ flags_alone slow obtrusive → raises_flags st m found m′ → Makes st m found m′
   LowersFlags : (place : ℕ) (deeds : List Deed) (slow obtrusive : Bool) → MayLower place deeds slow obtrusive m →
@@ -52,6 +55,9 @@ pub data Makes (st : Step Slot) (m : Mine) (found : ℕ) (m′ : Mine) : Type 0 
   ReleasesFast : (place number : ℕ) → st.word ≡ lock_word place → releases_fast number st m found m′ → Makes st m found m′
   Materialises : (place weight : ℕ) (h : LatchRecord) → MayMaterialise place weight h m →
       st.word ≡ lock_word place → materialises st m found m′ → Makes st m found m′
+  Pins : (place : ℕ) (key : KeyName) (k : Keys) → MayPin place key k m → st.word ≡ pins_word place → pins_place st m found m′ → Makes st m found m′
+  Unpins : (place : ℕ) → MayUnpin place m → st.word ≡ pins_word place → unpins_place st m found m′ → Makes st m found m′
+  ReadsPins : (place : ℕ) → st.word ≡ pins_word place → reads_pins st m found m′ → Makes st m found m′
 
 -- ---- a whole step: what it leaves in its word, which was `found`, what it does with slots, and what its session has to know besides
 
@@ -88,7 +94,7 @@ HasLatch place m = (h : LatchRecord) × (held_at place m.0.latches ≡ Some h)
 abbrev pub IsWhole : State Slot View → ℕ → Act Slot → {st : Step Slot} {m : Mine} {found : ℕ} {m′ : Mine} → Makes st m found m′ → Type 0
 IsWhole s left act {st} (Makes.DrawsNumber _) = (st.word ≡ enrol_word st.slots) × (act ≡ keeps)
 IsWhole s left act {st} {m} {found} (Makes.TakesDirectory _ _) = Takes 0 m found left act
-IsWhole s left act {st} {m} (Makes.PutsDirectory _ _ _) = MayInform m × Gives left act
+IsWhole s left act {st} {m} (Makes.PutsDirectory _ _) = MayDismiss m × Gives left act
 IsWhole s left act {st} {m} {found} (Makes.TakesLatch place _ _) = HasPlace s place × Takes place m found left act
 IsWhole s left act (Makes.PutsLatch place _ _ _ _) = HasPlace s place × Gives left act
 IsWhole s left act (Makes.PutsServed place table _ _ _) =
@@ -96,6 +102,7 @@ IsWhole s left act (Makes.PutsServed place table _ _ _) =
 IsWhole s left act (Makes.PutsReading place _ _ _) = HasPlace s place × Gives left act
 IsWhole s left act (Makes.PutsSearched place _ _ _ _) = HasPlace s place × Gives left act
 IsWhole s left act (Makes.PutsKey place _ _ _ _ _ _) = HasPlace s place × Gives left act
+IsWhole s left act (Makes.PutsOtherKey place _ _ _ _ _ _) = HasPlace s place × Gives left act
 IsWhole s left act {st} {m} (Makes.RaisesFlags place _ _ _ _ _) = HasPlace s place × HasLatch place m × (act ≡ keeps)
 IsWhole s left act (Makes.LowersFlags place _ _ _ _ _ _ _) = HasPlace s place × (act ≡ keeps)
 IsWhole s left act {st} {m} {found} (Makes.ReadsWord place _ _) = HasPlace s place × HasLatch place m × Meets found left act
@@ -120,6 +127,9 @@ IsWhole s left act {st} {m} {found} (Makes.ReleasesFast place number _ _) =
     HasPlace s place × (0 < m.0.number) × ((one : ℕ) × MayReleaseFast place number one m × Writes ((found + (2 ^ 64 - one)) % 2 ^ 64) left act)
 IsWhole s left act {st} {m} {found} (Makes.Materialises place weight _ _ _ _) =
     HasPlace s place × Writes ((found + (2 ^ 64 - weight)) % 2 ^ 64) left act
+IsWhole s left act {st} {m} {found} (Makes.Pins place _ _ _ _ _) = HasPlace s place × Writes (found + 1) left act
+IsWhole s left act {st} {m} {found} (Makes.Unpins place _ _ _) = HasPlace s place × Writes (found - 1) left act
+IsWhole s left act {st} {m} {found} (Makes.ReadsPins place _ _) = HasPlace s place × Meets found left act
 
 -- ---- changes
 

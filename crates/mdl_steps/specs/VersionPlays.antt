@@ -46,6 +46,12 @@ ReadOneStanding place version m =
     (r q : Reading) → Contains (reads_at place m.0.reads) r → Contains (reads_at place m.0.reads) q →
     r.standing.version ≡ version → q.standing.version ≡ version → r.standing ≡ q.standing
 
+-- what the session read of this version at a place is valid for each key that it knows to be there
+abbrev pub ReadWhatFits : ℕ → ℕ → Mine → Type 0
+ReadWhatFits place version m =
+    (r : Reading) → Contains (reads_at place m.0.reads) r → r.standing.version ≡ version →
+    (i : ℕ) (k : KnownKey) → get_elem? m.0.known i ≡ some k → k.place ≡ place → MayStand k.key.namespace r.standing
+
 -- a version and definition agree with all that the session knows of a place. No version that it read there is newer, what it read of this version is
 -- this definition, and each version that it noted under a ticket there is this one. So what it reads twice under a ticket is the same, unless it
 -- changed that itself. And the definition is valid for each key that the session knows to be there
@@ -72,4 +78,5 @@ reads_version st m found m′ = (m′.0.number ≡ m.0.number) × ((place : ℕ)
 abbrev pub finds_version : List Kept → Step Slot → Mine → ℕ → Mine → Type 0
 finds_version kept st m found m′ =
     (m′.0.number ≡ m.0.number)
-    × ((place : ℕ) → st.word ≡ version_word place → (m′ ≡ found_version kept place found m) × ReadNoneNewer place found m × ReadOneStanding place found m)
+    × ((place : ℕ) → st.word ≡ version_word place → (m′ ≡ found_version kept place found m) × ReadNoneNewer place found m × ReadOneStanding place found m
+    × ReadWhatFits place found m)

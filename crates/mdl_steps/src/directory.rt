@@ -2,15 +2,12 @@
 ghost use Rattle.std.specs.Prelude.{◌≡◌, ◌≢◌, ℕ, ◌<◌, ◌∷◌, length, MatchOption};
 ghost use Rattle.mdl_steps.specs.declared.slot.Slot.TheVariants as slot;
 ghost use Rattle.mdl_steps.specs.declared.view.Keys.{Keys};
-ghost use Rattle.mdl_steps.specs.Plays.{IsDirectory, consulted, informed, missed_latch};
-ghost use Rattle.mdl_steps.specs.Schemas.{StandThere, unknown};
-ghost use Rattle.mdl_steps.specs.Seats.{HasDirectory, MayInform, learnt, rest};
+ghost use Rattle.mdl_steps.specs.Plays.{IsDirectory, consulted, dismissed, missed_latch};
+ghost use Rattle.mdl_steps.specs.Seats.{HasDirectory, MayDismiss, rest};
 
 use crate::layout::DIRECTORY_LATCH;
-use crate::plays::{Learning, PutDirectory, TakeDirectory};
+use crate::plays::{PutDirectory, TakeDirectory};
 use crate::table_seat::TableSeat;
-use mdl_key::KnownKey;
-use std::marker::Brand;
 
 /// The latch of the directory, which a session holds. It has to be given back: it can't be dropped.
 pub struct LatchedDirectory {
@@ -41,40 +38,14 @@ impl TableSeat {
         Some(LatchedDirectory { marker: () })
     }
 
-    /// Gives the directory's latch back. From then on the session knows the key of this place, if the place has one. Place 0 has none.
-    pub fn put_directory(&mut self, latch: LatchedDirectory, place: usize)
-        requires put { MayInform self.old.me }
-        ensures made { self.new ≡ record self.old { me = informed (learnt self.old.me place) self.old.me } }
+    /// Gives the directory's latch back. A session that is to use a place pins it before ([`TableSeat::pin_place`]).
+    pub fn put_directory(&mut self, latch: LatchedDirectory)
+        requires put { MayDismiss self.old.me }
+        ensures made { self.new ≡ record self.old { me = dismissed self.old.me } }
     {
         let LatchedDirectory { marker: () } = latch;
-        self.put_directory_knowing::<Brand>(place);
-    }
-
-    fn put_directory_knowing<J: Learning>(&mut self, _place: usize)
-        requires picked { learnt self.old.me _place ≡ J.learnt }
-        requires put { MayInform self.old.me }
-        ensures made { self.new ≡ record self.old { me = informed (learnt self.old.me _place) self.old.me } }
-    {
         self.table
             .shared
-            .store::<PutDirectory<J>>(&mut self.seat, DIRECTORY_LATCH, 0);
-    }
-    /// Gives the directory's latch back. From then on the session also knows those of the given keys that it didn't know.
-    pub fn put_directory_telling(&mut self, latch: LatchedDirectory, known: &[KnownKey])
-        requires put { (k : Keys) × HasDirectory k self.old.me × StandThere k known.now }
-        ensures made { self.new ≡ record self.old { me = informed (unknown self.old.me.0.known known.now) self.old.me } }
-    {
-        let LatchedDirectory { marker: () } = latch;
-        self.put_directory_after::<Brand>(known);
-    }
-
-    fn put_directory_after<J: Learning>(&mut self, _known: &[KnownKey])
-        requires picked { unknown self.old.me.0.known _known.now ≡ J.learnt }
-        requires put { (k : Keys) × HasDirectory k self.old.me × StandThere k _known.now }
-        ensures made { self.new ≡ record self.old { me = informed (unknown self.old.me.0.known _known.now) self.old.me } }
-    {
-        self.table
-            .shared
-            .store::<PutDirectory<J>>(&mut self.seat, DIRECTORY_LATCH, 0);
+            .store::<PutDirectory>(&mut self.seat, DIRECTORY_LATCH, 0);
     }
 }

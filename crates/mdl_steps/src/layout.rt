@@ -1,6 +1,6 @@
 //! The layout of the table's words, which [`LockTable`](crate::LockTable) lists in full.
 ghost use Rattle.std.specs.Prelude.{◌≡◌, ◌^◌, ◌<◌, ◌≤◌};
-ghost use Rattle.mdl_steps.specs.Layout.{latch_word, lock_word, version_word, enrol_word, wait_word, session_count, word_count};
+ghost use Rattle.mdl_steps.specs.Layout.{latch_word, lock_word, version_word, pins_word, enrol_word, wait_word, session_count, word_count};
 
 // The index of the word of the directory's latch: the directory is at place 0.
 pub(crate) const DIRECTORY_LATCH: usize = 0;
@@ -27,6 +27,14 @@ pub(crate) fn version_word(place: usize) -> usize
     ensures { result ≡ version_word place }
 {
     8 * place + 2
+}
+
+// Returns the index of the word of a place's pins.
+pub(crate) fn pins_word(place: usize) -> usize
+    requires { place < 2 ^ 32 }
+    ensures { result ≡ pins_word place }
+{
+    8 * place + 3
 }
 
 // Returns the index of the word from which the sessions' numbers are drawn, in a table with `slots` slots.

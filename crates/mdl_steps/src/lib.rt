@@ -11,6 +11,8 @@
 //! [`TableSeat::open_wait`] opens the wait, a session that holds the latch of its place grants it ([`TableSeat::grant_wait`]) or any session
 //! settles it as lost ([`TableSeat::settle_wait`]), and the session that waited ends it.
 //!
+//! A place keeps its key while any session knows it: a session pins the places whose keys it knows ([`TableSeat::pin_place`]).
+//!
 //! What a session does to its own tickets under a latch is a list of [`Deed`]s. After MySQL 5.7, `MDL_lock` and `MDL_context` of
 //! `sql/mdl.cc`; the latch, the words and the views are this project's own.
 //!
@@ -45,7 +47,9 @@ pub mod layout;
 mod maker;
 mod naming;
 mod opening;
+mod pins;
 mod plays;
+mod renaming;
 mod schemas;
 mod slot;
 mod step_kind;

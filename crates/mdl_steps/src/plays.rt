@@ -4,11 +4,11 @@ ghost use Rattle.mdl_key.specs.declared.mode.Mode.{Mode};
 ghost use Rattle.mdl_key.specs.declared.mode.Mode.TheVariants.{S};
 ghost use Rattle.mdl_defs.specs.Caches.{Kept};
 ghost use Rattle.mdl_steps.specs.declared.deed.Deed.{Deed};
-ghost use Rattle.mdl_key.specs.declared.known_key.KnownKey.{KnownKey};
 ghost use Rattle.mdl_steps.specs.Cells.{blank, numbers_for, no_numbers};
 ghost use Rattle.mdl_steps.specs.FastPlays.{reads_word_unlatched, grants_fast, releases_fast, materialises};
 ghost use Rattle.mdl_steps.specs.Histories.{ReachedFor};
-ghost use Rattle.mdl_steps.specs.Plays.{enrols, lowers_flags, puts_directory, puts_key, puts_latch, puts_reading, puts_searched, puts_served, raises_flags, reads_word, takes_directory, takes_latch, writes_version};
+ghost use Rattle.mdl_steps.specs.PinPlays.{pins_place, reads_pins, unpins_place};
+ghost use Rattle.mdl_steps.specs.Plays.{enrols, lowers_flags, puts_directory, puts_key, puts_latch, puts_other_key, puts_reading, puts_searched, puts_served, raises_flags, reads_word, takes_directory, takes_latch, writes_version};
 ghost use Rattle.mdl_steps.specs.VersionPlays.{finds_version, reads_version};
 ghost use Rattle.mdl_steps.specs.WaitPlays.{reads_wait, settles_lost, settles_granted, opens_wait, ends_granted, ends_lost};
 
@@ -117,6 +117,13 @@ impl Play<Slot, View> for PutKey {
     ghost then = { puts_key };
 }
 
+/// A latch is given back, and its place gets another key.
+pub(crate) struct PutOtherKey;
+
+impl Play<Slot, View> for PutOtherKey {
+    ghost then = { puts_other_key };
+}
+
 /// Flags are lowered, after some deeds.
 pub(crate) struct LowerFlags<J: Doing> {
     marker: PhantomData<J>,
@@ -133,23 +140,11 @@ impl Play<Slot, View> for TakeDirectory {
     ghost then = { takes_directory };
 }
 
-/// The keys that a session gets to know by a step.
-pub(crate) trait Learning {
-    ghost learnt: { List KnownKey };
-}
+/// The directory's latch is given back.
+pub(crate) struct PutDirectory;
 
-/// Each call picks them.
-impl Learning for Brand {
-    ghost learnt = { [] };
-}
-
-/// The directory's latch is given back, and the session knows some more keys.
-pub(crate) struct PutDirectory<J: Learning> {
-    marker: PhantomData<J>,
-}
-
-impl<J: Learning> Play<Slot, View> for PutDirectory<J> {
-    ghost then = { puts_directory J.learnt };
+impl Play<Slot, View> for PutDirectory {
+    ghost then = { puts_directory };
 }
 
 /// A wait word is read.
@@ -306,4 +301,25 @@ pub(crate) struct Materialise;
 
 impl Play<Slot, View> for Materialise {
     ghost then = { materialises };
+}
+
+/// A place is pinned.
+pub(crate) struct Pin;
+
+impl Play<Slot, View> for Pin {
+    ghost then = { pins_place };
+}
+
+/// A place is unpinned.
+pub(crate) struct Unpin;
+
+impl Play<Slot, View> for Unpin {
+    ghost then = { unpins_place };
+}
+
+/// The pins of a place are read.
+pub(crate) struct ReadPins;
+
+impl Play<Slot, View> for ReadPins {
+    ghost then = { reads_pins };
 }

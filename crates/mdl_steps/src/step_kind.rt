@@ -51,4 +51,10 @@ pub enum StepKind {
     ReleaseFast,
     /// The session's fast tickets at a place became slow ones.
     Materialise,
+    /// A place was pinned.
+    Pin,
+    /// A place was unpinned.
+    Unpin,
+    /// The number of sessions that pin a place was read.
+    ReadPins,
 }

@@ -32,6 +32,7 @@ use std::sync::Arc;
 /// | `8 * place`           | `latch_word`   | the number of the session that holds the latch of the place, or 0. Place 0 is the directory's |
 /// | `8 * place + 1`       | `lock_word`    | the word of the lock at the place: a [`Word`](mdl_word::Word) |
 /// | `8 * place + 2`       | `version_word` | the version of the key of the place |
+/// | `8 * place + 3`       | `pins_word`    | how many sessions pin the place |
 /// | `8 * n`               | `enrol_word`   | the number that the next session gets |
 /// | `8 * n + 8 + 8 * s`   | [`wait_word`]  | the number and state of the last wait of session `s`, from 1 on: a [`WaitWord`](crate::WaitWord) |
 ///

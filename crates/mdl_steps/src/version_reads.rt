@@ -2,7 +2,7 @@
 ghost use Rattle.std.specs.Prelude.{◌≡◌, ℕ, ◌*◌, ◌+◌, ◌^◌, ◌<◌, [], None, Some};
 ghost use Rattle.mdl_defs.specs.Caches.{kept_of};
 ghost use Rattle.mdl_defs.specs.declared.definition.Definition.{Definition};
-ghost use Rattle.mdl_steps.specs.VersionPlays.{found_version, met_version, noted_version, LearnsVersion, ReadNoneNewer, ReadOneStanding};
+ghost use Rattle.mdl_steps.specs.VersionPlays.{found_version, met_version, noted_version, LearnsVersion, ReadNoneNewer, ReadOneStanding, ReadWhatFits};
 ghost use Rattle.mdl_steps.specs.Seats.{IsPlace};
 
 use crate::layout::version_word;
@@ -36,6 +36,7 @@ impl TableSeat {
         ensures missed { kept_of place result cache.now.kept ≡ None → self.new ≡ record self.old { me = met_version place result self.old.me } }
         ensures newest { ReadNoneNewer place result self.old.me }
         ensures one { ReadOneStanding place result self.old.me }
+        ensures fits { ReadWhatFits place result self.old.me }
     {
         self.read_version_as::<Brand>(place, cache)
     }
@@ -46,6 +47,7 @@ impl TableSeat {
         ensures made { self.new ≡ record self.old { me = found_version _cache.now.kept place result self.old.me } }
         ensures newest { ReadNoneNewer place result self.old.me }
         ensures one { ReadOneStanding place result self.old.me }
+        ensures fits { ReadWhatFits place result self.old.me }
     {
         self.table
             .shared

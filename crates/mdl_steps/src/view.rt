@@ -123,8 +123,10 @@ pub struct View {
     pub latches: [LatchRecord; 0],
     /// The record of the directory's latch, if it holds that latch.
     pub directory: Option<Keys>,
-    /// The keys that it looked up, with their places.
+    /// The keys that it looked up, with their places. The session pins these places, and no others.
     pub known: [KnownKey; 0],
+    /// A place that it found unpinned while it holds the directory's latch. Until it gives that latch back, no session pins the place.
+    pub idle: Option<usize>,
     /// The versions and definitions that it read.
     pub reads: [Reading; 0],
     /// The places whose waiters it has yet to check.
