@@ -1,6 +1,6 @@
 -- Steps on the latch of the directory: the cells of all places stay as they are.
-use Rattle.std.proofs.Common.{◌≡◌, ◌≢◌, ℕ, ◌+◌, ◌*◌, ◌<◌, ◌==◌, List, [], ◌∷◌, ◌++◌, map, set, length, get_or, Some, None, refl, sym, ap, ◌∙◌, subst, inl, inr, arith, length-set, get_or-set_other, get_or-set_same, Option, nat_lt, ltb-true}
-use Rattle.mdl_steps.proofs.FirstLemmas.{Allows, Desk, DirectoryOk, Each, HasDirectory, Homes, KeyName, Keys, KnownKey, KnowsKeys, Makes, Mine, Numbered, PlaceOk, ReachedFor, Rule, Shows, Table, View, Waiter, WaitsAgree, after, at_inside, at_map, at_set, at_unmap, by_bool, cell, consulted, desk_of, either, enrol_word, exchanged, get_elem?, gives, goes_on, holder_at, informed, keeps, key_at, latch_word, learnt, lock_word, map-set, map_kept, missed_latch, none, option_map, option_to_list, part_at, put_back, puts_directory, set_else, set_here, some, step, takes, takes_directory, version_word, waiter_of, waits}
+use Rattle.std.proofs.Common.{◌≡◌, ◌≢◌, ℕ, ◌+◌, ◌*◌, ◌<◌, ◌==◌, true, List, [], ◌∷◌, ◌++◌, map, set, length, get_or, Some, None, refl, sym, ap, ◌∙◌, subst, inl, inr, arith, length-set, get_or-set_other, get_or-set_same, Option, nat_lt, ltb-true}
+use Rattle.mdl_steps.proofs.FirstLemmas.{Allows, Desk, DirectoryOk, Each, HasDirectory, Homes, KeyName, Keys, KnownKey, KnowsKeys, Makes, Mine, Numbered, PinsOk, PlaceOk, ReachedFor, Rule, Shows, Table, View, Waiter, WaitsAgree, after, at_inside, at_map, at_set, at_unmap, by_bool, cell, consulted, desk_of, dismissed, either, enrol_word, exchanged, get_elem?, gives, goes_on, holder_at, is_some, keeps, key_at, latch_word, learnt, lock_word, map-set, map_kept, missed_latch, none, nothing_still, option_map, option_to_list, part_at, pin_count, pins_kept, pins_word, put_back, puts_directory, set_else, set_here, some, step, takes, takes_directory, version_word, waiter_of, waits}
 use Rattle.mdl_steps.specs.declared.slot.Slot.TheVariants as slot
 
 -- what such a step changes: the view from v to w, but for what it has at places, and the slot of the directory
@@ -10,6 +10,8 @@ pub record Consults (s : Table) (id : ℕ) (v w : View) (homes : Homes) : Type 0
   pub spare : w.spare ≡ v.spare
   pub waiter : waiter_of w ≡ waiter_of v
   pub numbered : Numbered w
+  pub known : w.known ≡ v.known
+  pub idle : (p : ℕ) → w.idle ≡ Some p → (v.idle ≡ Some p) × (is_some v.directory ≡ true → is_some w.directory ≡ true)
   pub slots : length homes ≡ length s.homes
   pub home_else : (q : ℕ) → q ≢ 0 → get_elem? homes q ≡ get_elem? s.homes q
   pub part : (q : ℕ) → part_at (waits s) q w ≡ part_at (waits s) q v
@@ -65,6 +67,12 @@ module _ (s : Table) (r : Rule s) (id : ℕ) (v w : View) (homes : Homes) (moved
       | inl e ↦ subst (λ (x : View). Numbered x × KnowsKeys r.keys x) e.1 (moved.numbered, knows)
       | inr e ↦ r.views j u e.1
     ];
+    pins_ok = subst (λ (k : ℕ). PinsOk k (pin_count new) new.views) (sym moved.slots)
+        (pins_kept (length s.homes) (pin_count s) (pin_count new) s.views id v w moved.seat moved.known
+        (λ p first last. word_else (pins_word p) (λ e. omega arith))
+        (λ p unpinned. nothing_still (waits s) p v w (moved.part p) (ap (λ (x : Waiter). x.asks) moved.waiter))
+        moved.idle
+        r.pins_ok);
     places = λ q first inside. subst (PlaceOk (key_at r.keys q)) (sym (cell_same q first)) (r.places q first (rw moved.slots at inside));
   }
 
@@ -114,6 +122,8 @@ module _ (slots id : ℕ) (me : Mine) (some_number : 0 < me.0.number) where
           spare = refl;
           waiter = refl;
           numbered = numbered w refl refl refl refl;
+          known = refl;
+          idle = λ p is. (is, λ _. refl);
           slots = length-set s.homes 0 none;
           home_else = λ q else. set_else s.homes 0 q none else;
           part = λ q. refl;
@@ -144,6 +154,8 @@ module _ (slots id : ℕ) (me : Mine) (some_number : 0 < me.0.number) where
           spare = refl;
           waiter = refl;
           numbered = numbered missed refl refl refl refl;
+          known = refl;
+          idle = λ p is. (is, λ some_. some_);
           slots = refl;
           home_else = λ q else. refl;
           part = λ q. refl;
@@ -153,10 +165,9 @@ module _ (slots id : ℕ) (me : Mine) (some_number : 0 < me.0.number) where
 
     -- ---- the latch is given back
 
-    put_rule : (k : Keys) (more : List KnownKey) → HasDirectory k me → Each (λ (x : KnownKey). (0 < x.place) × (key_at k.keys x.place ≡ Some x.key)) more
-        → Rule (after s (latch_word 0) 0 id (informed more me).0 (set s.homes 0 (some (slot.Directory k))))
-    put_rule k more has knows =
-        let w : View = (informed more me).0 in
+    put_rule : (k : Keys) → HasDirectory k me → Rule (after s (latch_word 0) 0 id (dismissed me).0 (set s.homes 0 (some (slot.Directory k))))
+    put_rule k has =
+        let w : View = (dismissed me).0 in
         let mine = r.directory_agrees.held id (desk_of me.0) desk_there k has.recorded in
         let same_keys : k.keys ≡ r.keys = mine.2 in
         let fit = r.fit in
@@ -167,11 +178,13 @@ module _ (slots id : ℕ) (me : Mine) (some_number : 0 < me.0.number) where
           spare = refl;
           waiter = refl;
           numbered = numbered w refl refl refl refl;
+          known = refl;
+          idle = λ p is. absurd (cc);
           slots = length-set s.homes 0 (some (slot.Directory k));
           home_else = λ q else. set_else s.homes 0 q (some (slot.Directory k)) else;
           part = λ q. refl;
           holder = λ q. refl;
-        }) 0 (each-append _ me.0.known more (r.views id me.0 seat).1 (rw (sym same_keys) knows))
+        }) 0 (r.views id me.0 seat).1
         (record {
           free = λ _. set_here s.homes 0 (some (slot.Directory k)) within ∙ ap (λ (ks : List KeyName). some (some (slot.Directory (record { keys = ks })))) same_keys;
           taken = λ taken. absurd (taken refl);
@@ -211,14 +224,14 @@ module _ (slots id : ℕ) (me : Mine) (some_number : 0 < me.0.number) where
         (some_number, (λ free. absurd (taken free)), λ _. (refl, refl)),
       )))
 
-  pub puts_directory_allowed : (k : Keys) (more : List KnownKey) → HasDirectory k me → Each (λ (x : KnownKey). (0 < x.place) × (key_at k.keys x.place ≡ Some x.key)) more
-      → (room : ℕ) → Allows (ReachedFor room) slots id me (latch_word 0) (λ _. 0) (λ _. puts_directory more (step slots (latch_word 0) 0 0 none) me 0)
-  puts_directory_allowed k more has knows = goes_on slots id (latch_word 0) 0 0 me (λ _. 0) (λ _. puts_directory more (step slots (latch_word 0) 0 0 none) me 0) (λ s r size seat fits. (
-    (informed more me).0,
+  pub puts_directory_allowed : (k : Keys) → HasDirectory k me
+      → (room : ℕ) → Allows (ReachedFor room) slots id me (latch_word 0) (λ _. 0) (λ _. puts_directory (step slots (latch_word 0) 0 0 none) me 0)
+  puts_directory_allowed k has = goes_on slots id (latch_word 0) 0 0 me (λ _. 0) (λ _. puts_directory (step slots (latch_word 0) 0 0 none) me 0) (λ s r size seat fits. (
+    (dismissed me).0,
     gives,
     tt,
-    subst (λ (homes : Homes). Rule (after s (latch_word 0) 0 id (informed more me).0 homes)) (sym (ap (put_back s.homes) has.carried)) (put_rule s r size seat k more has knows),
+    subst (λ (homes : Homes). Rule (after s (latch_word 0) 0 id (dismissed me).0 homes)) (sym (ap (put_back s.homes) has.carried)) (put_rule s r size seat k has),
     (refl, λ here. refl),
-    (λ told. Makes.PutsDirectory more refl told),
+    (λ told. Makes.PutsDirectory refl told),
     ((k, has), (refl, refl)),
   ))

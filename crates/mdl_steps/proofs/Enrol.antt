@@ -1,6 +1,7 @@
 -- Numbers are drawn by the first seat, and seats that have them are split off from it.
 use Rattle.std.proofs.Common.{◌≡◌, ◌≢◌, ℕ, zero, suc, ◌+◌, ◌*◌, ◌%◌, ◌^◌, ◌<◌, List, [], ◌∷◌, ◌++◌, map, set, length, get_or, false, Some, None, refl, sym, ap, ◌∙◌, subst, inl, inr, ◌⊎◌, arith, length-set, get_or-set_other, get_or-set_same, length-append, Option}
-use Rattle.mdl_steps.proofs.FirstLemmas.{Allows, Cell, Desk, Holder, KeyName, KnowsKeys, Makes, Mine, Numbered, Owned, Part, PartOk, PlaceOk, Reached, ReachedFor, Rule, Spare, Splits, StepRecord, Table, TableChange, Ticket, View, WaitOk, Waiter, WaitsAgree, all_fast, at_inside, at_longer, at_map, at_set, at_snoc, at_unmap, blank, blank_wait, cell, desk_of, enrol_word, enrols, get_elem?, goes_on, holder_at, keeps, key_at, latch_word, lock_word, logged, map_kept, no_numbers, none, numbers_for, option_to_list, part_at, pending, reached-rule, set_here, some, some-injective, some-ne-none, step, ticket_of, version_word, waiter_of, waits}
+use Rattle.mdl_steps.proofs.FirstLemmas.{Allows, Cell, Desk, Holder, KeyName, KnowsKeys, Makes, Mine, Numbered, Owned, Part, PartOk, PlaceOk, Reached, ReachedFor, Rule, Spare, Splits, StepRecord, Table, TableChange, Ticket, View, WaitOk, Waiter, WaitsAgree, all_fast, at_inside, at_longer, at_map, at_set, at_snoc, at_unmap, blank, blank_wait, cell, desk_of, enrol_word, enrols, get_elem?, goes_on, holder_at, keeps, key_at, latch_word, lock_word, logged, map_kept, no_numbers, none, numbers_for, option_to_list, part_at, pending, pin_count, pins_kept, pins_word, reached-rule, set_here, some, some-injective, some-ne-none, step, ticket_of, version_word, waiter_of, waits}
+use Rattle.mdl_steps.proofs.PinLemmas.{pins_joined}
 use Rattle.mdl_steps.specs.declared.step_kind.StepKind.TheVariants as step_kind
 
 -- ---- lists
@@ -215,6 +216,8 @@ module _ (most given : ℕ) (log : List StepRecord) where
           ]
           | inr new ↦ subst (λ (x : View). Numbered x × KnowsKeys r.keys x) new (numbered_blank (given + 1) no_numbers log, tt)
         ];
+        pins_ok = pins_joined (length s.homes) (pin_count s) (set s.views 0 left) right refl refl (λ p. (refl, refl, (λ a none. absurd (cc)), refl))
+            (pins_kept (length s.homes) (pin_count s) (pin_count s) s.views 0 with_number left seat refl (λ p first last. refl) (λ p unpinned nothing. nothing) (λ p is. absurd (cc)) r.pins_ok);
         places = split_place s r seat;
       }
 
@@ -305,6 +308,8 @@ module _ (slots most given : ℕ) (some_left : given < most) where
             | inl mine ↦ subst (λ (x : View). Numbered x × KnowsKeys r.keys x) mine.1 (numbered_blank 0 (numbers_for most (given + 1) given) drawn_view.log, tt)
             | inr other ↦ r.views j v other.1
           ];
+          pins_ok = pins_kept (length s.homes) (pin_count s) (pin_count new) s.views 0 before drawn_view seat refl
+              (λ p first last. word_else (pins_word p) (λ d. omega arith)) (λ p unpinned nothing. nothing) (λ p is. absurd (cc)) r.pins_ok;
           places = λ p first last. subst (PlaceOk (key_at r.keys p)) (sym (cell_same p last)) (r.places p first last);
         }
 

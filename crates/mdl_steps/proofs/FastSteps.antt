@@ -2,7 +2,7 @@
 use Rattle.std.proofs.Common.{◌≡◌, ◌≢◌, ℕ, ◌+◌, ◌-◌, ◌%◌, ◌^◌, ◌<◌, ◌≤◌, ◌==◌, Bool, true, false, not, cond, List, [], ◌∷◌, ◌++◌, map, set, length, get_or, Some, None, refl, sym, ap, ◌∙◌, subst, inl, inr, arith, rules, Option, count_by, length-append, length-set}
 use Rattle.mdl_book.proofs.CountLemmas.{not_all-any}
 use Rattle.mdl_key.specs.Matrices.{waits_behind}
-use Rattle.mdl_steps.proofs.FirstLemmas.{AllPass-from_list_all, Allows, BookOk, BookView, Cell, Counted, CoversFastTickets, Each, Encodes, ExactCounts, Holder, KeyName, Kind, KnownKey, LatchRecord, Lawful, Lose, Makes, MayGrantFast, MayReleaseFast, Mine, Mode, NoteAgrees, NotedCounts, Numbered, Part, PartOk, PlaceOk, ReachedFor, Rule, SessionTicket, Shows, StepKind, Table, Ticket, View, after, all_fast, all_fast-all, alone, and_from, and_parts, at_inside, at_map, at_set, but_own, by_bool, cell, count-append, count_by-le-length, counted, counted_mode, counted_set, counts_small, each-filtered, each-first, each_at, either, exchanged, fast_own, filter, get_elem?, goes_first, goes_on, granted_fast, grants_fast, has_obtrusive, holder_at, holders_again, increment_is, increment_of, increment_small, is_compatible, is_grantable, is_mode_of, is_obtrusive, is_of_class, is_own, keeps, key_at, kind_of, lawful_part, lawful_push, length-filter, length_mapped, list_all, list_all-append, list_all-from_AllPass, list_any, lock_kind, lock_word, map-append, met_word, met_word_by, missed_fast, none, obtrusive_flag, obtrusive_of, on_word, one_counted, one_in, or_parts, overtakes, owes_else, owes_here, owing, own_at, own_else-push, owned_else, owned_set, part_at, parts_again, reads_word_unlatched, released_fast, releases_fast, set_here, slow_flag, slow_of, some, some-injective, step, ticket_by, waiting_kept, waits}
+use Rattle.mdl_steps.proofs.FirstLemmas.{AllPass-from_list_all, Allows, BookOk, BookView, Cell, Counted, CoversFastTickets, Each, Encodes, ExactCounts, Holder, KeyName, Kind, KnownKey, LatchRecord, Lawful, Lose, Makes, MayGrantFast, MayReleaseFast, Mine, Mode, NoteAgrees, NotedCounts, Numbered, Part, PartOk, PlaceOk, ReachedFor, Rule, SessionTicket, Shows, StepKind, Table, Ticket, View, after, all_fast, all_fast-all, alone, and_from, and_parts, at_inside, at_map, at_set, but_own, by_bool, cell, count-append, count_by-le-length, counted, counted_mode, counted_set, counts_small, each-filtered, each-first, each_at, either, exchanged, fast_own, filter, get_elem?, goes_first, goes_on, granted_fast, grants_fast, has_obtrusive, holder_at, holders_again, increment_is, increment_of, increment_small, is_compatible, is_grantable, is_mode_of, is_obtrusive, is_of_class, is_own, keeps, key_at, kind_of, knows_no_less, lawful_part, lawful_push, length-filter, length_mapped, list_all, list_all-append, list_all-from_AllPass, list_any, lock_kind, lock_word, map-append, met_word, met_word_by, missed_fast, none, obtrusive_flag, obtrusive_of, on_word, one_counted, one_in, or_parts, overtakes, owes_else, owes_here, owing, own_at, own_else-push, owned_else, owned_set, part_at, parts_again, reads_word_unlatched, released_fast, releases_fast, set_here, slow_flag, slow_of, some, some-injective, step, ticket_by, waiting_kept, waits}
 use Rattle.mdl_steps.proofs.Deeds.{unobtrusive_beside}
 use Rattle.mdl_steps.proofs.Desks.{each-append}
 use Rattle.mdl_steps.proofs.Flags.{bit_small}
@@ -354,6 +354,7 @@ module _ (slots id place : ℕ) (me : Mine) (first : 0 < place) (last : place < 
           number = refl;
           spare = refl;
           waiter = refl;
+          pins = (refl, refl, (λ e. e), λ unpinned nothing. nothing);
           numbered = record { fast = row.fast; slow = row.slow; unmixed = row.unmixed; asks = row.asks; apart = row.apart; unfast = row.unfast };
           slots = refl;
           home_else = λ q else. refl;
@@ -399,6 +400,7 @@ module _ (slots id place : ℕ) (me : Mine) (first : 0 < place) (last : place < 
             number = refl;
             spare = refl;
             waiter = refl;
+            pins = (refl, refl, (λ e. e), λ unpinned _. knows_no_less place me.0 (may.counted_so.0, may.counted_so.1, may.counted_so.2, may.counted_so.3) unpinned);
             numbered = record {
               fast = each-append _ me.0.fast (own ∷ []) (below_more me.0.next me.0.fast row.fast) (omega arith, tt);
               slow = below_more me.0.next me.0.slow row.slow;
@@ -599,6 +601,7 @@ module _ (slots id place : ℕ) (me : Mine) (first : 0 < place) (last : place < 
           number = refl;
           spare = refl;
           waiter = refl;
+          pins = (refl, refl, (λ e. e), λ unpinned _. knows_no_less place me.0 (may.counted_so.0, may.counted_so.1, may.counted_so.2, may.counted_so.3) unpinned);
           numbered = record {
             fast = each-filtered _ (λ t. not (is_own place number t)) me.0.fast row.fast;
             slow = row.slow;

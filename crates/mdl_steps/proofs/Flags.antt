@@ -122,6 +122,7 @@ module _ (slots id place : ℕ) (me : Mine) (some_number : 0 < me.0.number) (fir
           number = refl;
           spare = refl;
           waiter = refl;
+          pins = (refl, refl, (λ e. e), λ unpinned nothing. nothing);
           numbered = record { fast = row.fast; slow = row.slow; unmixed = row.unmixed; asks = row.asks; apart = row.apart; unfast = row.unfast };
           slots = refl;
           home_else = λ q else. refl;

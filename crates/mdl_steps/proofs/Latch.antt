@@ -1,6 +1,7 @@
 -- The latch of a place is taken.
 use Rattle.std.proofs.Common.{◌≡◌, ◌≢◌, ℕ, ◌%◌, ◌<◌, ◌==◌, Bool, true, false, not, List, [], ◌∷◌, ◌++◌, map, set, length, get_or, Some, None, refl, sym, ap, ◌∙◌, subst, arith, length-set, Option, eq-eqb}
 use Rattle.mdl_steps.proofs.FirstLemmas.{Allows, Ask, Each, IsFresh, KeyName, Kind, KnownKey, LatchRecord, Makes, Mine, Mode, Moved, Numbered, Part, PlaceOk, ReachedFor, Rule, SessionTicket, Shows, Table, Ticket, View, after, all_fast, all_fast-own, and_false, and_parts, asking_at, at_map, by_bool, cell, desk_of, due, each_at, either, exchanged, get_elem?, goes_on, held_at-first, held_at-past, holder_at, is_compatible, is_lawful, is_mode_of, is_obtrusive, is_passed, is_ticket, keeps, key_at, latch_word, latched, lawful_part, list_all, list_all-append, lock_kind, missed_latch, none, on_latch, only_logged, option_to_list, other, own_at, part_at, parts_again, pending, seat_there, set_else, some, stands_beside, step, taken_cell, takes, takes_latch, ticket_by, ticket_of, waiter_of, waits}
+use Rattle.mdl_steps.proofs.Unpinned.{no_tickets}
 use Rattle.mdl_steps.specs.declared.slot.Slot.TheVariants as slot
 
 -- the due ticket is the one that the view asks for
@@ -138,6 +139,7 @@ module _ (slots id place : ℕ) (me : Mine) (some_number : 0 < me.0.number) (fir
           (all_fast-own test (cell s place).parts id (part_at (waits s) place me.0) (at_map (part_at (waits s) place) s.views id me.0 seat)
           (and_parts (list_all test fast) (list_all test ok.book.granted) (sym (list_all-append test fast ok.book.granted) ∙ ok.book_ok.lawful.compatible)).0));
       unmixed = (r.views id me.0 seat).0.unmixed;
+      unpinned = λ idle. no_tickets s r place (r.pins_ok.idle id me.0 seat place idle).1 (key_at r.keys place) (cell s place).version ok.book ok.book_ok;
     }
 
     numbered : (w : View) → w.next ≡ me.0.next → w.fast ≡ me.0.fast → w.slow ≡ me.0.slow → w.asks ≡ me.0.asks → Numbered w
@@ -151,6 +153,7 @@ module _ (slots id place : ℕ) (me : Mine) (some_number : 0 < me.0.number) (fir
       number = refl;
       spare = refl;
       waiter = refl;
+      pins = (refl, refl, (λ e. e), λ unpinned nothing. nothing);
       numbered = numbered (latched place fresh me).0 refl refl refl refl;
       slots = length-set s.homes place none;
       home_else = λ q else. set_else s.homes place q none else;
@@ -178,6 +181,7 @@ module _ (slots id place : ℕ) (me : Mine) (some_number : 0 < me.0.number) (fir
       number = refl;
       spare = refl;
       waiter = refl;
+      pins = (refl, refl, (λ e. e), λ unpinned nothing. nothing);
       numbered = numbered missed refl refl refl refl;
       slots = refl;
       home_else = λ q else. refl;

@@ -4,10 +4,12 @@ pub mod Lemmas
 pub mod Views
 pub mod Seating
 pub mod Waiting
+pub mod PinLemmas
 pub mod Lift
 pub mod Paid
 pub mod Holder
 pub mod Histories
+pub mod Unpinned
 pub mod Latch
 pub mod Flags
 pub mod Tickets
@@ -44,6 +46,9 @@ pub mod Tells
 pub mod Desks
 pub mod Looking
 pub mod NewKeys
+pub mod Exchanging
+pub mod OtherKeys
+pub mod Pinning
 pub mod Opens
 pub mod Enrol
 pub mod Starts

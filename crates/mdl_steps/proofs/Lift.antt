@@ -1,6 +1,7 @@
 -- A step at one place leaves the cells of the others as they are, so the rule holds after it if it holds at that place.
-use Rattle.std.proofs.Common.{◌≡◌, ◌≢◌, ℕ, ◌+◌, ◌*◌, ◌<◌, ◌≤◌, List, map, set, length, get_or, sym, ap, ◌∙◌, subst, inl, inr, arith, refl, length-set, get_or-set_other, get_or-set_same}
-use Rattle.mdl_steps.proofs.Common.{Cell, Desk, DirectoryOk, Distinct, Holder, KeyName, KnowsKeys, Maybe, Numbered, Part, PlaceOk, Rule, Slot, State, View, Waiter, WaitsAgree, at_map, at_set, cell, desk_of, enrol_word, get_elem?, holder_at, key_at, latch_word, lock_word, map-set, part_at, set_again, some, version_word, waiter_of, waits}
+use Rattle.std.proofs.Common.{◌≡◌, ◌≢◌, ℕ, ◌+◌, ◌*◌, ◌<◌, ◌≤◌, false, List, map, set, length, get_or, sym, ap, ◌∙◌, subst, inl, inr, arith, refl, length-set, get_or-set_other, get_or-set_same}
+use Rattle.mdl_steps.proofs.Common.{Cell, Desk, DirectoryOk, Distinct, HasNothingAt, Holder, KeyName, KnowsKeys, Maybe, Numbered, Part, PinsOk, PlaceOk, Rule, Slot, State, View, Waiter, WaitsAgree, at_map, at_set, cell, desk_of, enrol_word, get_elem?, holder_at, is_pinned, is_some, key_at, latch_word, lock_word, map-set, part_at, pin_count, pins_word, set_again, some, version_word, waiter_of, waits}
+use Rattle.mdl_steps.proofs.PinLemmas.{KeepsPins, nothing_still, pins_kept}
 use Rattle.mdl_steps.proofs.Views.{map_kept, at_unmap, at_inside}
 
 abbrev pub Table : Type 0
@@ -17,6 +18,7 @@ pub record Moved (s : Table) (place id : ℕ) (v w : View) (homes : Homes) : Typ
   pub spare : w.spare ≡ v.spare
   pub waiter : waiter_of w ≡ waiter_of v
   pub numbered : Numbered w
+  pub pins : KeepsPins place v w
   pub slots : length homes ≡ length s.homes
   pub home_else : (q : ℕ) → q ≢ place → get_elem? homes q ≡ get_elem? s.homes q
   pub part_else : (q : ℕ) → q ≢ place → part_at (waits s) q w ≡ part_at (waits s) q v
@@ -45,7 +47,7 @@ cell_after s place id w homes latch word version = record {
   parts = set (cell s place).parts id (part_at (waits s) place w);
 }
 
-module _ (s : Table) (r : Rule s) (place id : ℕ) (v w : View) (homes : Homes) (moved : Moved s place id v w homes) (i n : ℕ) (near : (8 * place ≤ i) × (i < 8 * place + 8)) where
+module _ (s : Table) (r : Rule s) (place id : ℕ) (v w : View) (homes : Homes) (moved : Moved s place id v w homes) (i n : ℕ) (near : (8 * place ≤ i) × (i < 8 * place + 3)) where
   new : Table
   new = after s i n id w homes
 
@@ -119,6 +121,16 @@ module _ (s : Table) (r : Rule s) (place id : ℕ) (v w : View) (homes : Homes) 
       | inl e ↦ subst (λ (x : View). Numbered x × KnowsKeys keys x) e.1 (moved.numbered, keyed.mine)
       | inr e ↦ ((r.views j u e.1).0, keyed.others j u e.1)
     ];
+    pins_ok = subst (λ (k : ℕ). PinsOk k (pin_count new) new.views) (sym moved.slots)
+        (pins_kept (length s.homes) (pin_count s) (pin_count new) s.views id v w moved.seat moved.pins.0
+        (λ p first last. word_else (pins_word p) (λ e. omega arith))
+        (λ p unpinned nothing. elim (Rattle.std.proofs.lemmas.Bool.cases_eq p place) [
+          | inl e ↦ subst (λ (q : ℕ). HasNothingAt q w) (sym e)
+              (moved.pins.3 (subst (λ (q : ℕ). is_pinned q v ≡ false) e unpinned) (subst (λ (q : ℕ). HasNothingAt q v) e nothing))
+          | inr e ↦ nothing_still (waits s) p v w (moved.part_else p e) (ap (λ (x : Waiter). x.asks) moved.waiter) nothing
+        ])
+        (λ p is. (sym moved.pins.1 ∙ is, moved.pins.2))
+        r.pins_ok);
     places = λ q some inside.
         elim (Rattle.std.proofs.lemmas.Bool.cases_eq q place) [
           | inl e ↦ subst (λ (x : ℕ). PlaceOk (key_at keys x) (cell new x)) (sym e) (subst (PlaceOk (key_at keys place)) (sym cell_here) ok)

@@ -1,6 +1,6 @@
 -- Materialising at a place keeps the rule.
 use Rattle.std.proofs.Common.{◌≡◌, ◌≢◌, ℕ, ◌+◌, ◌-◌, ◌%◌, ◌^◌, ◌<◌, ◌≤◌, ◌==◌, ◌||◌, Bool, true, false, not, cond, List, [], ◌∷◌, ◌++◌, map, set, length, get_or, Some, None, refl, sym, ap, ◌∙◌, subst, inl, inr, arith, Option, eq-eqb, eqb-true}
-use Rattle.mdl_steps.proofs.FirstLemmas.{Allows, Asking, BookOk, BookView, Cell, Counted, Each, KeyName, Kind, KnownKey, LatchRecord, Makes, MayMaterialise, Mine, NoteAgrees, Once, Part, PartOk, PlaceOk, ReachedFor, Rule, SessionTicket, Table, Ticket, Under, View, after, all_fast, all_fast-all, all_fast-own, alone, alone_parts, and_from, and_parts, any_obtrusive, asking_at, at_map, at_set, but_at, by_bool, cell, counted, counted_set, due, each-filtered, each-from_at, each-interleaved, each-to_at, each_at, get_elem?, goes_on, granting_all, held_at-changed, held_at-unchanged, holder_at, holder_cell, interleaved, is_mode_of, is_obtrusive, is_of_class, is_passed, is_ticket, keeps, key_at, lawful_part, list_all, list_all-append, lock_kind, lock_word, materialised, materialises, moved, none, of_other, on_word, option_to_list, other, own_at, owned_set, part_at, seat_there, some, step, ticket_by, ticket_of, under, waiting_kept, waits, with_granted}
+use Rattle.mdl_steps.proofs.FirstLemmas.{Allows, Asking, BookOk, BookView, Cell, Counted, Each, KeyName, Kind, KnownKey, LatchRecord, Makes, MayMaterialise, Mine, NoteAgrees, Once, Part, PartOk, PlaceOk, ReachedFor, Rule, SessionTicket, Table, Ticket, Under, View, after, all_fast, all_fast-all, all_fast-own, alone, alone_parts, and_from, and_parts, any_obtrusive, asking_at, at_map, at_set, but_at, by_bool, cell, counted, counted_set, due, each-filtered, each-from_at, each-interleaved, each-to_at, each_at, get_elem?, goes_on, granting_all, held_at-changed, held_at-unchanged, holder_at, holder_cell, interleaved, is_mode_of, is_obtrusive, is_of_class, is_passed, is_ticket, keeps, key_at, knows_no_less, lawful_part, list_all, list_all-append, lock_kind, lock_word, materialised, materialises, moved, none, of_other, on_word, option_to_list, other, own_at, owned_set, part_at, seat_there, some, step, ticket_by, ticket_of, under, waiting_kept, waits, with_granted}
 use Rattle.mdl_steps.proofs.FastSteps.{covers_fewer, encoded_small}
 use Rattle.mdl_steps.proofs.JoinedTickets.{joined_elsewhere, joined_found}
 use Rattle.mdl_steps.proofs.Unmixed.{unmixed_apart, unmixed_joined}
@@ -328,6 +328,7 @@ module _ (slots id place : ℕ) (me : Mine) (some_number : 0 < me.0.number) (fir
           number = refl;
           spare = refl;
           waiter = refl;
+          pins = (refl, refl, (λ e. e), λ unpinned _. knows_no_less place me.0 may.known unpinned);
           numbered = record {
             fast = each-filtered _ (λ t. not (t.place == place)) me.0.fast row.fast;
             slow = below;

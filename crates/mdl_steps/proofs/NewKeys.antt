@@ -1,6 +1,6 @@
 -- The place after all that have a key gets one: its latch is given back with the empty book of a new key.
-use Rattle.std.proofs.Common.{◌≡◌, ◌≢◌, ℕ, zero, suc, ◌+◌, ◌-◌, ◌<◌, false, List, [], ◌∷◌, ◌++◌, map, set, length, Some, None, refl, sym, ap, ◌∙◌, subst, inl, inr, arith, length-set, length-append, get_or-set_other, get_or-set_same, slice_get}
-use Rattle.mdl_steps.proofs.FirstLemmas.{Allows, BookOk, BookView, Desk, Distinct, Each, Homes, IsUnused, KeyName, Keyed, Keys, KnownKey, LatchRecord, Makes, MayName, Mine, Part, PartOk, ReachedFor, ReadsAgree, Rule, SlowHeld, Table, Ticket, VersionedDefinition, View, after, all_fast, alone, at_inside, at_map, at_set, cell, desk_of, empty_book, get_elem?, gives, goes_on, held_at-dropped, held_at-undropped, holder_at, key_at, latch_word, lifted, listing, lock_word, named, none, not_there, nothing-stands, parts_again, put_back, put_cell, puts_key, seat_there, set_else, set_here, some, step, ticket_of, under, version_word}
+use Rattle.std.proofs.Common.{◌≡◌, ◌≢◌, ℕ, zero, suc, ◌+◌, ◌-◌, ◌<◌, true, false, List, [], ◌∷◌, ◌++◌, map, set, length, Some, None, refl, sym, ap, ◌∙◌, subst, inl, inr, arith, length-set, length-append, get_or-set_other, get_or-set_same, slice_get, Option}
+use Rattle.mdl_steps.proofs.FirstLemmas.{Allows, BookOk, BookView, Desk, Distinct, Each, Homes, IsUnused, KeyName, Keyed, Keys, KnownKey, LatchRecord, Makes, MayName, Mine, Part, PartOk, ReachedFor, ReadsAgree, Rule, SlowHeld, Table, Ticket, VersionedDefinition, View, after, all_fast, alone, at_inside, at_map, at_set, cell, desk_of, empty_book, get_elem?, gives, goes_on, held_at-dropped, held_at-undropped, holder_at, is_some, key_at, latch_word, lifted, listing, lock_word, named, none, not_there, nothing-stands, option_map, parts_again, put_back, put_cell, puts_key, seat_there, set_else, set_here, some, step, ticket_of, under, version_word}
 use Rattle.mdl_steps.proofs.Desks.{alone_desk}
 use Rattle.mdl_steps.proofs.Put.{one_hand}
 use Rattle.mdl_steps.specs.declared.slot.Slot.TheVariants as slot
@@ -39,6 +39,11 @@ distinct_longer [] key new distinct = (tt, tt)
 distinct_longer (x ∷ xs) key new distinct =
     (differs_longer x key xs (λ e. new zero (ap (λ (y : KeyName). some y) e)) distinct.0, distinct_longer xs key (λ i there. new (suc i) there) distinct.1)
 
+-- a record that is there still is
+pub still_some : {A : Type 0} → (f : A → A) (o : Option A) → is_some o ≡ true → is_some (option_map f o) ≡ true
+still_some f None e = e
+still_some f (Some a) e = refl
+
 -- ---- an unused book is exchanged for the empty one of the key
 
 exchanged_part : (book : BookView) (key : KeyName) (x : Part) → IsUnused book → PartOk book x → PartOk (empty_book key) x
@@ -51,9 +56,9 @@ exchanged_part book key x unused ok = record {
       subst (λ (standing : VersionedDefinition). ReadsAgree (record (empty_book key) { standing = standing }) x) unused.2 now;
 }
 
-exchanged_book : (version : ℕ) (parts : List Part) (book : BookView) (key : KeyName) → IsUnused book → all_fast parts ≡ [] → BookOk None version parts book
+pub exchanged_book : (old : Option KeyName) (version : ℕ) (parts : List Part) (book : BookView) (key : KeyName) → IsUnused book → all_fast parts ≡ [] → BookOk old version parts book
     → BookOk (Some key) version parts (empty_book key)
-exchanged_book version parts book key unused no_fast ok = record {
+exchanged_book old version parts book key unused no_fast ok = record {
   lawful = rw no_fast (record { compatible = refl; modes = refl; unobtrusive = refl });
   once = tt;
   owned = λ session number t found. absurd (cc);
@@ -137,6 +142,7 @@ module _ (slots id place : ℕ) (me : Mine) (some_number : 0 < me.0.number) (fir
           number = refl;
           spare = refl;
           waiter = refl;
+          pins = (refl, refl, still_some (listing key) me.0.directory, λ unpinned nothing. nothing);
           numbered = record { fast = row.fast; slow = row.slow; unmixed = row.unmixed; asks = row.asks; apart = row.apart; unfast = row.unfast };
           slots = length-set s.homes place (some (slot.Place (empty_book key)));
           home_else = λ q else. set_else s.homes place q (some (slot.Place (empty_book key))) else;
@@ -160,7 +166,7 @@ module _ (slots id place : ℕ) (me : Mine) (some_number : 0 < me.0.number) (fir
           flagged = ((λ e. may.exact.0 ∙ e), λ e. may.exact.1 ∙ e);
           noted = λ word noted. absurd (cc);
           exact = λ exact. absurd (cc);
-          book_ok = exchanged_book (cell s place).version parts h.book key unused.0 unused.1 (rw no_key at u.book_ok);
+          book_ok = exchanged_book (key_at r.keys place) (cell s place).version parts h.book key unused.0 unused.1 u.book_ok;
         }) may.exact))
 
   pub puts_key_allowed : (room : ℕ) → Allows (ReachedFor room) slots id me (latch_word place) (λ _. 0) (λ _. puts_key (step slots (latch_word place) 0 0 none) me 0)

@@ -24,6 +24,10 @@ module _ (place version : ℕ) where
       (λ here. rw (here, here) (ap (λ xs. with_note version t ∷ xs) (notes_here ts)))
       (λ away. rw (away, away) (notes_here ts))
 
+  -- where there is no ticket there is none then
+  pub notes_nothing : (ts : List SessionTicket) → own_at place ts ≡ [] → own_at place (noting_version place version ts) ≡ []
+  notes_nothing ts none = notes_here ts ∙ ap (λ (xs : List SessionTicket). map (with_note version) xs) none
+
   pub numbered_notes : (next : ℕ) (ts : List SessionTicket) → Each (λ (t : SessionTicket). t.number < next) ts → Each (λ (t : SessionTicket). t.number < next) (noting_version place version ts)
   numbered_notes next [] all = tt
   numbered_notes next (t ∷ ts) all = by_bool (t.place == place)

@@ -1,6 +1,6 @@
 -- The table at the start meets the rule.
-use Rattle.std.proofs.Common.{◌≡◌, ℕ, zero, suc, ◌+◌, ◌*◌, ◌<◌, false, List, [], ◌∷◌, map, length, None, refl, sym, ap, ◌∙◌, subst, arith}
-use Rattle.mdl_steps.proofs.Common.{Desk, Holder, IsOpening, KeyName, PartOk, PlaceOk, Rule, Slot, View, WaitOk, Waiter, at_map, blank, cell, desk_of, empty_book, get_elem?, holder_at, latch_word, length-map, lock_word, nothing-stands, numbers_for, opening, option_to_list, part_at, pending, some, some-injective, some-ne-none, ticket_of, version_word, waiter_of, waits}
+use Rattle.std.proofs.Common.{◌≡◌, ℕ, zero, suc, ◌+◌, ◌*◌, ◌<◌, false, List, [], ◌∷◌, map, length, Some, None, refl, sym, ap, ◌∙◌, subst, arith}
+use Rattle.mdl_steps.proofs.Common.{Desk, HasNothingAt, Holder, IsOpening, KeyName, PartOk, PlaceOk, Rule, Slot, View, WaitOk, Waiter, at_map, blank, cell, desk_of, empty_book, get_elem?, holder_at, latch_word, length-map, lock_word, nothing-stands, numbers_for, opening, option_to_list, part_at, pending, pins_word, some, some-injective, some-ne-none, ticket_of, version_word, waiter_of, waits}
 use Rattle.mdl_steps.specs.declared.slot.Slot.TheVariants as slot
 
 -- a list of one has only its first
@@ -89,6 +89,11 @@ module _ (sessions : ℕ) (words : List ℕ) (slots : List Slot) (open_ : IsOpen
       unused = λ n fits none. unwaited n;
     };
     views = λ j v at. (let it = only start v j at in subst (λ (x : View). Rattle.mdl_steps.specs.Rule.Numbered x × Rattle.mdl_steps.specs.Rule.KnowsKeys [] x) it.1 (record { fast = tt; slow = tt; unmixed = tt; asks = λ a none. absurd (cc); apart = λ a none. absurd (cc); unfast = λ a none. absurd (cc) }, tt));
+    pins_ok = record {
+      counted = λ p first last. (let within = last in open_.zeros (pins_word p) (λ e. omega arith));
+      needed = λ j v at p unpinned. (let it = only start v j at in subst (HasNothingAt p) it.1 (refl, refl, (λ a none. absurd (cc)), refl));
+      idle = λ j v at p is. (let it = only start v j at in let no : None ≡ Some p = ap (λ (x : View). x.idle) it.1 ∙ is in absurd (cc));
+    };
     places = λ p first last. (let within : p < length slots = rw homes_count at last in let there = open_.places p first within in no_key p (empty_place there.0 p first within there.1));
   }
     where

@@ -1,6 +1,6 @@
 -- The latch of a place is given back, and its flags are lowered, after deeds of the session.
 use Rattle.std.proofs.Common.{◌≡◌, ◌≢◌, ℕ, ◌<◌, ◌⊎◌, ◌&&◌, Bool, true, false, List, [], ◌∷◌, set, length, get_or, Some, None, refl, sym, ap, ◌∙◌, subst, inl, inr, arith, length-set, bit_and}
-use Rattle.mdl_steps.proofs.FirstLemmas.{Allows, BookOk, BookView, Counted, Deed, Flagged, FreesNothing, HasDone, Holder, Homes, KeyName, KnownKey, LatchRecord, Makes, MayAct, MayDo, Mine, NotedCounts, Numbered, Part, PlaceOk, ReachedFor, Rule, SessionTicket, Slot, Table, TellsLists, Under, View, after, all_booked, all_but_flags, all_done, all_fast, all_owned, alone, alone_parts, at_map, by_bool, cell, each_at, flags_lowered, get_elem?, gives, goes_on, held_at, held_at-changed, held_at-dropped, held_at-unchanged, held_at-undropped, holder_at, holder_cell, keeps, key_at, latch_word, lock_kind, lock_word, lowered, lowers, lowers_flags, may_all, none, on_latch, on_word, own_at, owned, owned_else, part_at, put_back, put_cell, puts_latch, rest, seat_there, set_else, set_here, some, step, under, unlatched, waits}
+use Rattle.mdl_steps.proofs.FirstLemmas.{Allows, BookOk, BookView, Counted, Deed, Flagged, FreesNothing, HasDone, HasNothingAt, Holder, Homes, KeyName, KnownKey, LatchRecord, Makes, MayAct, MayDo, Mine, NotedCounts, Numbered, Part, PlaceOk, ReachedFor, Rule, SessionTicket, Slot, Table, TellsLists, Under, View, after, all_booked, all_but_flags, all_done, all_fast, all_owned, alone, alone_parts, at_map, by_bool, cell, each_at, flags_lowered, get_elem?, gives, goes_on, held_at, held_at-changed, held_at-dropped, held_at-unchanged, held_at-undropped, holder_at, holder_cell, is_pinned, keeps, key_at, knows_no_less, latch_word, lock_kind, lock_word, lowered, lowers, lowers_flags, may_all, none, on_latch, on_word, own_at, owned, owned_else, part_at, put_back, put_cell, puts_latch, rest, seat_there, set_else, set_here, some, step, under, unlatched, waits}
 use Rattle.mdl_steps.proofs.Books.{deeds_ok, all_booked_kind}
 use Rattle.mdl_steps.specs.declared.slot.Slot.TheVariants as slot
 
@@ -95,6 +95,13 @@ module _ (slots id place : ℕ) (me : Mine) (some_number : 0 < me.0.number) (fir
           book_ok = rw is did.0;
         }
 
+    -- nothing is done at a place that the session doesn't pin
+    nothing_done : is_pinned place me.0 ≡ false → HasNothingAt place me.0 → HasNothingAt place (all_done place ds me.0)
+    nothing_done unpinned nothing = elim act [
+      | inl k ↦ knows_no_less place me.0 k unpinned
+      | inr idle ↦ subst (λ (xs : List Deed). HasNothingAt place (all_done place xs me.0)) (sym idle) nothing
+    ]
+
     by_itself : (j : ℕ) (l : Holder) → get_elem? (cell s place).holders j ≡ some l → l.number ≡ (cell s place).latch → j ≡ id
     by_itself j l at same = alone s r place id me.0 seat some_number j l at (same ∙ sym mine)
 
@@ -116,6 +123,7 @@ module _ (slots id place : ℕ) (me : Mine) (some_number : 0 < me.0.number) (fir
           number = refl;
           spare = refl;
           waiter = refl;
+          pins = (refl, refl, (λ e. e), λ unpinned nothing. nothing_done unpinned nothing);
           numbered = record { fast = numbered.fast; slow = numbered.slow; unmixed = numbered.unmixed; asks = numbered.asks; apart = numbered.apart; unfast = numbered.unfast };
           slots = length-set s.homes place (some (slot.Place book));
           home_else = λ q else. set_else s.homes place q (some (slot.Place book)) else;
@@ -143,6 +151,7 @@ module _ (slots id place : ℕ) (me : Mine) (some_number : 0 < me.0.number) (fir
           number = refl;
           spare = refl;
           waiter = refl;
+          pins = (refl, refl, (λ e. e), λ unpinned nothing. nothing_done unpinned nothing);
           numbered = record { fast = numbered.fast; slow = numbered.slow; unmixed = numbered.unmixed; asks = numbered.asks; apart = numbered.apart; unfast = numbered.unfast };
           slots = refl;
           home_else = λ q else. refl;

@@ -1,6 +1,6 @@
 -- The latch of a place is given back with nothing changed, and what stands there was read.
 use Rattle.std.proofs.Common.{◌≡◌, ℕ, ◌<◌, false, set, length, None, refl, sym, ap, ◌∙◌, subst, inr, arith, length-set}
-use Rattle.mdl_steps.proofs.FirstLemmas.{Allows, Holds, Homes, LatchRecord, Makes, Mine, ReachedFor, Rule, Table, TellsLists, View, after, alone, apart_notes, at_map, cell, dropped, fast_same, get_elem?, gives, goes_on, held_at-dropped, held_at-undropped, holder_at, key_at, latch_word, none, noted_away, noted_here, noted_ok, noted_part, noting_version, numbered_notes, on_latch, part_at, put_back, put_cell, puts_reading, read_and_put, seat_there, set_else, set_here, some, step, under, waits}
+use Rattle.mdl_steps.proofs.FirstLemmas.{Allows, Holds, Homes, LatchRecord, Makes, Mine, ReachedFor, Rule, Table, TellsLists, View, after, alone, apart_notes, at_map, cell, dropped, fast_same, get_elem?, gives, goes_on, held_at-dropped, held_at-undropped, holder_at, key_at, latch_word, none, noted_away, noted_here, noted_ok, noted_part, notes_nothing, noting_version, numbered_notes, on_latch, part_at, put_back, put_cell, puts_reading, read_and_put, seat_there, set_else, set_here, some, step, under, waits}
 use Rattle.mdl_steps.proofs.Put.{one_hand}
 use Rattle.mdl_steps.proofs.Unmixed.{unmixed_notes}
 use Rattle.mdl_steps.specs.declared.slot.Slot.TheVariants as slot
@@ -31,6 +31,7 @@ module _ (slots id place : ℕ) (me : Mine) (some_number : 0 < me.0.number) (fir
           number = refl;
           spare = refl;
           waiter = refl;
+          pins = (refl, refl, (λ e. e), λ unpinned nothing. (notes_nothing place h.book.standing.version me.0.fast nothing.0, notes_nothing place h.book.standing.version me.0.slow nothing.1, nothing.2, nothing.3));
           numbered = record {
             fast = numbered_notes place h.book.standing.version me.0.next me.0.fast row.fast;
             slow = numbered_notes place h.book.standing.version me.0.next me.0.slow row.slow;

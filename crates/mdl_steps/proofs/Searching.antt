@@ -29,6 +29,7 @@ module _ (slots id place : ℕ) (me : Mine) (some_number : 0 < me.0.number) (fir
           number = refl;
           spare = refl;
           waiter = refl;
+          pins = (refl, refl, (λ e. e), λ unpinned nothing. nothing);
           numbered = record { fast = row.fast; slow = row.slow; unmixed = row.unmixed; asks = row.asks; apart = row.apart; unfast = row.unfast };
           slots = length-set s.homes place (some (slot.Place h.book));
           home_else = λ q else. set_else s.homes place q (some (slot.Place h.book)) else;

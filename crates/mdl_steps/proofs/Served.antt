@@ -12,6 +12,11 @@ unfiltered place q (p ∷ ps) else = by_bool (p == place)
     (λ here. rw (here, other p q (λ e. else (sym e ∙ eqb-true p place here))) (unfiltered place q ps else))
     (λ away. rw away (ap (λ (b : Bool). (p == q) || b) (unfiltered place q ps else)))
 
+-- and nothing is left to do at the place itself
+none_left : (place : ℕ) (owes : List ℕ) → list_any (λ p. p == place) (filter (λ p. not (p == place)) owes) ≡ false
+none_left place [] = refl
+none_left place (p ∷ ps) = by_bool (p == place) (λ here. rw here (none_left place ps)) (λ away. rw (away, away) (none_left place ps))
+
 -- ---- the book doesn't hang on what is owed
 
 module _ (key : Option KeyName) (version : ℕ) (parts : List Part) (book : BookView) (id : ℕ) (x : Part) (at : get_elem? parts id ≡ some x) (ok : BookOk key version parts book) (owes : Bool) where
@@ -90,6 +95,7 @@ module _ (table : TableId) (id place : ℕ) (me : Mine) (some_number : 0 < me.0.
           number = refl;
           spare = refl;
           waiter = refl;
+          pins = (refl, refl, (λ e. e), λ unpinned nothing. (nothing.0, nothing.1, nothing.2, none_left place me.0.owes));
           numbered = record { fast = row.fast; slow = row.slow; unmixed = row.unmixed; asks = row.asks; apart = row.apart; unfast = row.unfast };
           slots = length-set s.homes place (some (slot.Place may.latch.book));
           home_else = λ q else. set_else s.homes place q (some (slot.Place may.latch.book)) else;

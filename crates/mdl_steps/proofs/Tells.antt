@@ -1,6 +1,6 @@
 -- What the rule tells of the words, the books, and what sessions noted and read.
 use Rattle.std.proofs.Common.{◌≡◌, ℕ, zero, suc, ◌<◌, ◌==◌, Bool, cond, List, [], ◌∷◌, ◌++◌, length, Some, refl, sym, ap, ◌∙◌, subst, inl, inr, ◌⊎◌, eq-eqb}
-use Rattle.mdl_steps.proofs.FirstLemmas.{BookView, Each, FreeLocksAreAsTheirWordsTell, HeldLocksAreAsTheirRecordsTell, Holder, NoteAgrees, NotedVersionsStand, PlaceOk, ReadAgrees, Reading, ReadsAgree, ReadsAreOfWhatStands, Rule, SessionTicket, Slot, State, TakenLatchesAreHeld, View, at_map, at_unmap, by_bool, cell, each-from_at, each_at, get_elem?, held_at, holder_at, key_at, part_at, reads_at, some, under, waits}
+use Rattle.mdl_steps.proofs.FirstLemmas.{BookView, Each, FreeLocksAreAsTheirWordsTell, HeldLocksAreAsTheirRecordsTell, Holder, KnownKey, NoteAgrees, NotedVersionsStand, PinnedPlacesHaveTheirKeys, PinsAreCounted, PlaceOk, ReadAgrees, Reading, ReadsAgree, ReadsAreOfWhatStands, Rule, SessionTicket, Slot, State, TakenLatchesAreHeld, View, at_map, at_unmap, by_bool, cell, each-from_at, each_at, get_elem?, held_at, holder_at, key_at, part_at, reads_at, some, under, waits}
 
 pub free_told : FreeLocksAreAsTheirWordsTell
 free_told s r place first last free =
@@ -23,6 +23,22 @@ taken_told s r place first last taken =
     let u = at_unmap (holder_at place) s.views t.0 t.1 t.3 in
     let has : held_at place u.0.latches ≡ Some t.2 = ap (λ (l : Holder). l.held) u.2 ∙ t.4 in
     (t.0, u.0, t.2, u.1, has, sym (ok.held t.0 (holder_at place u.0) (at_map (holder_at place) s.views t.0 u.0 u.1) t.2 has).mine)
+
+-- ---- pins
+
+pub pins_told : PinsAreCounted
+pins_told s r place first last = r.pins_ok.counted place first last
+
+pub keys_told : PinnedPlacesHaveTheirKeys
+keys_told s r i v seat n k at last =
+    let knows = each_at (λ (x : KnownKey). (0 < x.place) × (key_at r.keys x.place ≡ Some x.key)) v.known (r.views i v seat).1 n k at in
+    let ok = r.places k.place knows.0 last in
+    let key = ok.book_ok.named.key_is k.key knows.1 in (
+      (λ free. (ok.book, (ok.free free).0, key)),
+      λ j w h seat_w has.
+          let held = ok.held j (holder_at k.place w) (at_map (holder_at k.place) s.views j w seat_w) h has in
+          ap (λ (b : BookView). b.key) held.book_is ∙ key,
+    )
 
 -- ---- what sessions noted and read
 

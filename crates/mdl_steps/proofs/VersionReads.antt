@@ -1,7 +1,7 @@
 -- The version of a place is read without its latch, and noted under the session's tickets there.
 use Rattle.std.proofs.Common.{◌≡◌, ℕ, ◌<◌, ◌≤◌, List, [], ◌∷◌, ◌++◌, map, set, length, get_or, refl, sym, ap, ◌∙◌, subst, inl, inr, arith, Option, Some, None, Contains}
 use Rattle.mdl_defs.specs.declared.definition.Definition.{Definition}
-use Rattle.mdl_steps.proofs.FirstLemmas.{Allows, BookOk, BookView, Cell, Contains-cons_cases, Contains-none, Each, Follows, IsPaidBut, Kept, KeyName, KnownKey, LearnsVersion, Makes, MayStand, Mine, Part, PartOk, PlaceOk, ReachedFor, ReadAgrees, ReadNoneNewer, ReadOneStanding, Reading, Rule, Shown, Table, VersionedDefinition, View, after, all_fast, all_fast-noted, apart_notes, at_map, at_set, cell, due, each_at, fast_same_noted, finds_version, found_version, get_elem?, goes_on, holders_again, keeps, kept_of, key_at, learnt_version, lock_kind, logged, met_version, none, noted_away, noted_here, noted_ok, noted_part, noted_version, notes_agree, notes_else, notes_here, notes_length, notes_shown, noting_found, noting_version, numbered_notes, on_version, option_map_or, option_to_list, owned_set, paid_before, part_at, parts_again, reads_at, reads_version, some, step, ticket_of, version_word, waiting_kept, waits, with_note}
+use Rattle.mdl_steps.proofs.FirstLemmas.{Allows, BookOk, BookView, Cell, Contains-cons_cases, Contains-none, Each, Follows, IsPaidBut, Kept, KeyName, KnownKey, LearnsVersion, Makes, MayStand, Mine, Part, PartOk, PlaceOk, ReachedFor, ReadAgrees, ReadNoneNewer, ReadOneStanding, ReadWhatFits, Reading, Rule, Shown, Table, VersionedDefinition, View, after, all_fast, all_fast-noted, apart_notes, at_map, at_set, cell, due, each_at, fast_same_noted, finds_version, found_version, get_elem?, goes_on, holders_again, keeps, kept_of, key_at, learnt_version, lock_kind, logged, met_version, none, noted_away, noted_here, noted_ok, noted_part, noted_version, notes_agree, notes_else, notes_here, notes_length, notes_nothing, notes_shown, noting_found, noting_version, numbered_notes, on_version, option_map_or, option_to_list, owned_set, paid_before, part_at, parts_again, reads_at, reads_version, some, step, ticket_of, version_word, waiting_kept, waits, with_note}
 use Rattle.mdl_steps.proofs.Unmixed.{unmixed_notes}
 use Rattle.mdl_steps.specs.declared.step_kind.StepKind.TheVariants as step_kind
 
@@ -134,6 +134,7 @@ module _ (slots id place : ℕ) (me : Mine) (first : 0 < place) (last : place < 
           number = refl;
           spare = refl;
           waiter = refl;
+          pins = (refl, refl, (λ e. e), λ unpinned nothing. nothing);
           numbered = record { fast = row.fast; slow = row.slow; unmixed = row.unmixed; asks = row.asks; apart = row.apart; unfast = row.unfast };
           slots = refl;
           home_else = λ q else. refl;
@@ -153,6 +154,7 @@ module _ (slots id place : ℕ) (me : Mine) (first : 0 < place) (last : place < 
           number = refl;
           spare = refl;
           waiter = refl;
+          pins = (refl, refl, (λ e. e), λ unpinned nothing. (notes_nothing place version_found me.0.fast nothing.0, notes_nothing place version_found me.0.slow nothing.1, nothing.2, nothing.3));
           numbered = record {
             fast = numbered_notes place version_found me.0.next me.0.fast row.fast;
             slow = numbered_notes place version_found me.0.next me.0.slow row.slow;
@@ -187,6 +189,7 @@ module _ (slots id place : ℕ) (me : Mine) (first : 0 < place) (last : place < 
           number = refl;
           spare = refl;
           waiter = refl;
+          pins = (refl, refl, (λ e. e), λ unpinned nothing. (notes_nothing place n me.0.fast nothing.0, notes_nothing place n me.0.slow nothing.1, nothing.2, nothing.3));
           numbered = record {
             fast = numbered_notes place n me.0.next me.0.fast row.fast;
             slow = numbered_notes place n me.0.next me.0.slow row.slow;
@@ -226,6 +229,13 @@ module _ (slots id place : ℕ) (me : Mine) (first : 0 < place) (last : place < 
         let is = place_ok.book_ok.version_is in
         (agrees x x_there).1 (x_is ∙ is) ∙ sym ((agrees q q_there).1 (q_is ∙ is))
 
+    -- what it read of this version stands there now, so it is valid for the key
+    pub fits_found : ReadWhatFits place version_found me
+    fits_found x there_ is i k known here =
+        let agrees = read_agrees place_ok.book (reads_at place me.0.reads) reads_agree x there_ in
+        let same : x.standing ≡ standing_found = agrees.1 (is ∙ place_ok.book_ok.version_is) in
+        subst (λ (standing : VersionedDefinition). MayStand k.key.namespace standing) (sym same) (follows_found.fits i k known here)
+
   finds_version_shown : (kept : List Kept) → Shown slots id (version_word place) 0 0 me (λ n. n) (finds_version kept (step slots (version_word place) 0 0 none) me)
   finds_version_shown kept s r size seat fits =
       let found = version_found s r size seat in (
@@ -237,8 +247,8 @@ module _ (slots id place : ℕ) (me : Mine) (first : 0 < place) (last : place < 
           same_number (kept_of place found kept),
           λ q here.
               let same : place ≡ q = omega arith in
-              subst (λ (p : ℕ). ((found_version kept place found me) ≡ found_version kept p found me) × ReadNoneNewer p found me × ReadOneStanding p found me) same
-              (refl, none_newer s r size seat (reads_at place me.0.reads) (reads_agree s r size seat), one_standing s r size seat),
+              subst (λ (p : ℕ). ((found_version kept place found me) ≡ found_version kept p found me) × ReadNoneNewer p found me × ReadOneStanding p found me × ReadWhatFits p found me) same
+              (refl, none_newer s r size seat (reads_at place me.0.reads) (reads_agree s r size seat), one_standing s r size seat, fits_found s r size seat),
         ),
         (λ told. Makes.FindsVersion place kept refl told),
         ((first, within s r size seat), (refl, refl)),

@@ -1,6 +1,6 @@
 -- The version of a place is written by the holder of its latch, who has an exclusive ticket there.
 use Rattle.std.proofs.Common.{◌≡◌, ◌≢◌, ℕ, ◌<◌, List, set, length, refl, sym, ap, ◌∙◌, arith, Option, Contains}
-use Rattle.mdl_steps.proofs.FirstLemmas.{Allows, BookOk, BookView, Change, HasRedefined, KeyName, LatchRecord, Makes, Mine, Part, PartOk, ReachedFor, Rule, Table, Ticket, VersionedDefinition, View, X, after, alone, alone_parts, apart_notes, at_map, cell, changed, changes-keep_standing, exact_again, fast_same, get_elem?, goes_on, held_at-changed, held_at-unchanged, holder_at, holder_cell, keeps, key_at, lock_kind, none, noted_away, noted_here, noted_ok, noted_part, noting_version, numbered_notes, on_version, part_at, reads_older, redefined, redefining, restood, seat_there, some, standing_after, step, under, version_word, waits, writes_version}
+use Rattle.mdl_steps.proofs.FirstLemmas.{Allows, BookOk, BookView, Change, HasRedefined, KeyName, LatchRecord, Makes, Mine, Part, PartOk, ReachedFor, Rule, Table, Ticket, VersionedDefinition, View, X, after, alone, alone_parts, apart_notes, at_map, cell, changed, changes-keep_standing, exact_again, fast_same, get_elem?, goes_on, held_at-changed, held_at-unchanged, holder_at, holder_cell, keeps, key_at, lock_kind, none, noted_away, noted_here, noted_ok, noted_part, notes_nothing, noting_version, numbered_notes, on_version, part_at, reads_older, redefined, redefining, restood, seat_there, some, standing_after, step, under, version_word, waits, writes_version}
 use Rattle.mdl_steps.proofs.Exclusive.{others_fast, others_slow}
 use Rattle.mdl_steps.proofs.Put.{one_hand}
 use Rattle.mdl_steps.proofs.Unmixed.{unmixed_notes}
@@ -58,6 +58,7 @@ module _ (slots id place : ℕ) (me : Mine) (some_number : 0 < me.0.number) (fir
           number = refl;
           spare = refl;
           waiter = refl;
+          pins = (refl, refl, (λ e. e), λ unpinned nothing. (notes_nothing place standing.version me.0.fast nothing.0, notes_nothing place standing.version me.0.slow nothing.1, nothing.2, nothing.3));
           numbered = record {
             fast = numbered_notes place standing.version me.0.next me.0.fast row.fast;
             slow = numbered_notes place standing.version me.0.next me.0.slow row.slow;

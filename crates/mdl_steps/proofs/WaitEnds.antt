@@ -1,7 +1,8 @@
 -- A session opens a wait, and ends it: steps on its own wait's word.
-use Rattle.std.proofs.Common.{◌≡◌, ◌≢◌, ℕ, ◌+◌, ◌*◌, ◌/◌, ◌%◌, ◌<◌, ◌≤◌, ◌==◌, cond, List, [], ◌∷◌, ◌++◌, map, set, length, Some, None, refl, sym, ap, ◌∙◌, subst, arith, Option}
-use Rattle.mdl_steps.proofs.FirstLemmas.{Allows, AreUnmixed, Ask, Each, Gain, KeyName, KnownKey, LatchRecord, Makes, MayCancel, MayOpen, Mine, Mode, NoteAgrees, Part, PlaceOk, ReachedFor, Rule, SessionTicket, Shown, Shows, Table, Ticket, Under, View, WaitOk, after, all_fast, alone, alone_parts, asked_ticket, asking, asking_at, at_map, by_bool, cell, each-from_at, each-note, each_at, ended_granted, ended_lost, ended_wait, ends_granted, ends_lost, exact_again, flagged_cancelled, get_elem?, goes_on, held_at, held_at-changed, held_at-unchanged, holder_at, holder_cell, holders_again, keeps, key_at, lock_kind, none, note_at, opened, opened_wait, opens_wait, other, own_at, owned_else, paid_before, part_at, seat_there, some, step, taken_over, under, wait_in, wait_word, waiter_of, waits, with_cancelled, with_waiting}
+use Rattle.std.proofs.Common.{◌≡◌, ◌≢◌, ℕ, ◌+◌, ◌*◌, ◌/◌, ◌%◌, ◌<◌, ◌≤◌, ◌==◌, cond, false, List, [], ◌∷◌, ◌++◌, map, set, length, Some, None, refl, sym, ap, ◌∙◌, subst, arith, Option}
+use Rattle.mdl_steps.proofs.FirstLemmas.{Allows, AreUnmixed, Ask, Each, Gain, KeyName, KnownKey, LatchRecord, Makes, MayCancel, MayOpen, Mine, Mode, NoteAgrees, Part, PlaceOk, ReachedFor, Rule, SessionTicket, Shown, Shows, Table, Ticket, Under, View, WaitOk, after, all_fast, alone, alone_parts, asked_ticket, asking, asking_at, at_map, by_bool, cell, each-from_at, each-note, each_at, ended_granted, ended_lost, ended_wait, ends_granted, ends_lost, exact_again, flagged_cancelled, get_elem?, goes_on, held_at, held_at-changed, held_at-unchanged, holder_at, holder_cell, holders_again, is_pinned, keeps, key_at, knows_no_less, lock_kind, none, note_at, opened, opened_wait, opens_wait, other, own_at, owned_else, paid_before, part_at, seat_there, some, step, taken_over, under, wait_in, wait_word, waiter_of, waits, with_cancelled, with_waiting}
 use Rattle.mdl_steps.proofs.Desks.{each-append}
+use Rattle.mdl_steps.proofs.Unpinned.{asks_away}
 use Rattle.mdl_steps.proofs.WaitBooks.{opened_ok, taken_ok, cancelled_ok, fast_kept}
 use Rattle.mdl_steps.proofs.WaitFrame.{on_wait, waits_here, own_parts, own_parts_else, own_waits}
 use Rattle.mdl_steps.proofs.WaitSteps.{wished, asked_here, part_cell}
@@ -21,11 +22,6 @@ own_at-push place t [] here = rw (Rattle.std.proofs.lemmas.Bool.eq-eqb t.place p
 own_at-push place t (x ∷ xs) here = by_bool (x.place == place)
     (λ at. rw at (ap (λ ys. x ∷ ys) (own_at-push place t xs here)))
     (λ away. rw away (own_at-push place t xs here))
-
--- a session that waits elsewhere waits for nothing here
-asks_away : (q n word : ℕ) (asks : Option Ask) → ((a : Ask) → asks ≡ Some a → a.place ≢ q) → asking_at q n word asks ≡ None
-asks_away q n word None away = refl
-asks_away q n word (Some a) away = rw (other a.place q (away a refl)) refl
 
 module _ (s : Table) (r : Rule s) (id : ℕ) (me : Mine) (seat : get_elem? s.views id ≡ some me.0) (some_number : 0 < me.0.number) where
   abbrev session : ℕ
@@ -132,6 +128,15 @@ module _ (s : Table) (r : Rule s) (id : ℕ) (me : Mine) (seat : get_elem? s.vie
           spare = refl;
           directory = refl;
           known = refl;
+          idle = refl;
+          needed = λ q unpinned nothing. (
+            nothing.0,
+            nothing.1,
+            (λ a e here. (let is : asking place mode me.0 ≡ a = cc in
+                let there_ : place ≡ q = ap (λ (b : Ask). b.place) is ∙ here in
+                knows_no_less place me.0 may.known (subst (λ (p : ℕ). is_pinned p me.0 ≡ false) (sym there_) unpinned))),
+            nothing.3,
+          );
           numbered = record {
             fast = below_more me.0.next me.0.fast row.fast;
             slow = below_more me.0.next me.0.slow row.slow;
@@ -206,6 +211,8 @@ module _ (s : Table) (r : Rule s) (id : ℕ) (me : Mine) (seat : get_elem? s.vie
             spare = refl;
             directory = refl;
             known = refl;
+            idle = refl;
+            needed = λ q unpinned nothing. (nothing.0, owned_else a.place q (Gain a.number a.mode) me.0.slow (λ e. nothing.2 a asks (sym e)) ∙ nothing.1, (λ b e. absurd (cc)), nothing.3);
             numbered = record {
               fast = row.fast;
               slow = each-append _ me.0.slow (own ∷ []) row.slow (row.asks a asks, tt);
@@ -269,6 +276,8 @@ module _ (s : Table) (r : Rule s) (id : ℕ) (me : Mine) (seat : get_elem? s.vie
             spare = refl;
             directory = refl;
             known = refl;
+            idle = refl;
+            needed = λ q unpinned nothing. (nothing.0, nothing.1, (λ b e. absurd (cc)), nothing.3);
             numbered = record { fast = row.fast; slow = row.slow; unmixed = row.unmixed; asks = λ b e. absurd (cc); apart = λ b e. absurd (cc); unfast = λ b e. absurd (cc) };
             holder_else = λ q else. λ i. record { number = me.0.number; held = held_at-unchanged place (with_cancelled session cancelled_number) (λ x. refl) q me.0.latches else i };
           }) (set (cell s place).parts id without_ask)

@@ -1,6 +1,6 @@
 -- A step on a wait's word: the cells of all places but one stay as they are, so the rule holds after it if it holds there.
-use Rattle.std.proofs.Common.{◌≡◌, ◌≢◌, ℕ, zero, suc, ◌+◌, ◌*◌, ◌<◌, ◌≤◌, List, [], ◌∷◌, map, set, length, get_or, Some, None, refl, sym, ap, ◌∙◌, subst, inl, inr, arith, length-set, get_or-set_other, get_or-set_same, Option}
-use Rattle.mdl_steps.proofs.FirstLemmas.{Ask, KnownKey, KnowsKeys, Numbered, Part, PlaceOk, Rule, Table, View, WaitOk, Waiter, WaitsAgree, after, asking_at, at_map, at_set, at_unmap, cases_eq, cell, desk_of, get_elem?, holder_at, key_at, latch_word, lock_word, map-set, map_kept, other, part_at, set_again, some, some-injective, some-ne-none, version_word, wait_word, waiter_of, waits}
+use Rattle.std.proofs.Common.{◌≡◌, ◌≢◌, ℕ, zero, suc, ◌+◌, ◌*◌, ◌<◌, ◌≤◌, false, List, [], ◌∷◌, map, set, length, get_or, Some, None, refl, sym, ap, ◌∙◌, subst, inl, inr, arith, length-set, get_or-set_other, get_or-set_same, Option}
+use Rattle.mdl_steps.proofs.FirstLemmas.{Ask, HasNothingAt, Keys, KnownKey, KnowsKeys, Numbered, Part, PlaceOk, Rule, Table, View, WaitOk, Waiter, WaitsAgree, after, asking_at, at_map, at_set, at_unmap, cases_eq, cell, desk_of, get_elem?, holder_at, is_pinned, is_some, key_at, latch_word, lock_word, map-set, map_kept, other, part_at, pin_count, pins_kept, pins_word, set_again, some, some-injective, some-ne-none, version_word, wait_word, waiter_of, waits}
 use Rattle.mdl_steps.proofs.Deeds.{set_twice}
 
 -- ---- parts by other wait words
@@ -45,6 +45,8 @@ pub record Waited (s : Table) (place id : ℕ) (v w : View) : Type 0 where
   pub directory : w.directory ≡ v.directory
   pub known : w.known ≡ v.known
   pub numbered : Numbered w
+  pub idle : w.idle ≡ v.idle
+  pub needed : (q : ℕ) → is_pinned q v ≡ false → HasNothingAt q v → HasNothingAt q w
   pub holder_else : (q : ℕ) → q ≢ place → holder_at q w ≡ holder_at q v
 
 module _ (s : Table) (r : Rule s) (session n : ℕ) (id : ℕ) (v w : View) where
@@ -87,6 +89,9 @@ module _ (s : Table) (r : Rule s) (session n : ℕ) (id : ℕ) (v w : View) wher
           (moved.numbered, (let knows = (r.views id v moved.seat).1 in subst (λ (ks : List KnownKey). Rattle.mdl_steps.specs.Lists.Each (λ (k : KnownKey). (0 < k.place) × (key_at r.keys k.place ≡ Some k.key)) ks) (sym moved.known) knows))
       | inr e ↦ r.views j u e.1
     ];
+    pins_ok = pins_kept (length s.homes) (pin_count s) (pin_count new) s.views id v w moved.seat moved.known
+        (λ p first last. word_else (pins_word p) (omega arith))
+        moved.needed (λ p is. (sym moved.idle ∙ is, λ some_. ap (λ (k : Option Keys). is_some k) moved.directory ∙ some_)) r.pins_ok;
     places = λ q first last.
         elim (cases_eq q place) [
           | inl e ↦ subst (λ (x : ℕ). PlaceOk (key_at r.keys x) (cell new x)) (sym e) (subst (PlaceOk (key_at r.keys place)) (sym cell_here) ok)

@@ -129,6 +129,8 @@ module _ (s : Table) (r : Rule s) (id session : ℕ) (me : Mine) (seat : get_ele
           spare = refl;
           directory = refl;
           known = refl;
+          idle = refl;
+          needed = λ q unpinned nothing. nothing;
           numbered = (let row = (r.views id me.0 seat).0 in record { fast = row.fast; slow = row.slow; unmixed = row.unmixed; asks = row.asks; apart = row.apart; unfast = row.unfast });
           holder_else = λ q else. λ i. record { number = me.0.number; held = held_at-unchanged place (with_admitted session ticket) (λ x. refl) q me.0.latches else i };
         }) (set (cell s place).parts t.at then_)

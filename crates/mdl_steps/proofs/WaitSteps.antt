@@ -1,6 +1,6 @@
 -- A wait's word is read, or a wait is settled as lost: no step of these needs a latch.
 use Rattle.std.proofs.Common.{◌≡◌, ◌≢◌, ℕ, zero, suc, ◌%◌, ◌<◌, ◌≤◌, ◌==◌, ◌⊎◌, List, [], ◌∷◌, map, set, length, get_or, Some, None, refl, sym, ap, ◌∙◌, subst, inl, inr, arith, eq-eqb, Option}
-use Rattle.mdl_steps.proofs.FirstLemmas.{Allows, Ask, BookOk, Cell, IsPaidBut, KeyName, KnowsKeys, Loss, Makes, Mine, Numbered, Part, PlaceOk, ReachedFor, Rule, Shows, StepKind, Table, TellsOwn, Ticket, View, WaitOk, Waiter, WaitsAgree, after, all_fast, alone_parts, asking_at, at_inside, at_map, at_set, at_unmap, cases_eq, cell, desk_of, either, exchanged, get_elem?, goes_on, holder_at, holders_again, keeps, key_at, lost_state, map-set, map_kept, meeting, met_else, met_ok, met_wait, met_wait_by, missed_wait, none, paid_before, part_at, reads_wait, set_else, set_here, settled_lost, settled_ok, settles_lost, some, some-injective, some-ne-none, step, wait_in, wait_word, waiter_of, waits}
+use Rattle.mdl_steps.proofs.FirstLemmas.{Allows, Ask, BookOk, Cell, IsPaidBut, KeyName, KnowsKeys, Loss, Makes, Mine, Numbered, Part, PlaceOk, ReachedFor, Rule, Shows, StepKind, Table, TellsOwn, Ticket, View, WaitOk, Waiter, WaitsAgree, after, all_fast, alone_parts, asking_at, at_inside, at_map, at_set, at_unmap, cases_eq, cell, desk_of, either, exchanged, get_elem?, goes_on, holder_at, holders_again, keeps, key_at, lost_state, map-set, map_kept, meeting, met_else, met_ok, met_wait, met_wait_by, missed_wait, none, paid_before, part_at, pin_count, pins_kept, reads_wait, set_else, set_here, settled_lost, settled_ok, settles_lost, some, some-injective, some-ne-none, step, wait_in, wait_word, waiter_of, waits}
 use Rattle.mdl_steps.proofs.WaitBooks.{lost_ok, fast_kept}
 use Rattle.mdl_steps.proofs.WaitFrame.{on_wait, waits_else, waits_here, their_parts, their_parts_else, part_away}
 use Rattle.mdl_steps.specs.declared.step_kind.StepKind.TheVariants as step_kind
@@ -125,6 +125,7 @@ module _ (s : Table) (r : Rule s) (id session : ℕ) (me : Mine) (seat : get_ele
               (record { fast = row.fast; slow = row.slow; unmixed = row.unmixed; asks = row.asks; apart = row.apart; unfast = row.unfast }, (r.views id me.0 seat).1)
           | inr e ↦ r.views j u e.1
         ];
+        pins_ok = pins_kept slots (pin_count s) (pin_count s) s.views id me.0 (met kind) seat refl (λ p first last. refl) (λ p unpinned nothing. nothing) (λ p is. (is, λ some_. some_)) r.pins_ok;
         places = λ q first last.
             let same : cell (record { words = s.words; homes = s.homes; views = set s.views id (met kind) }) q ≡ cell s q = λ i. record {
               latch = (cell s q).latch;
@@ -288,6 +289,8 @@ module _ (s : Table) (r : Rule s) (id session : ℕ) (me : Mine) (seat : get_ele
           spare = refl;
           directory = refl;
           known = refl;
+          idle = refl;
+          needed = λ q unpinned nothing. nothing;
           numbered = (let row = (r.views id me.0 seat).0 in record { fast = row.fast; slow = row.slow; unmixed = row.unmixed; asks = row.asks; apart = row.apart; unfast = row.unfast });
           holder_else = λ q else. refl;
         }) (set (cell s place).parts t.at then_)

@@ -1,6 +1,6 @@
 //! What follows from the rule of the table. Each law is proved as the contract of a function that does nothing.
 ghost use Rattle.mdl_steps.specs.Histories.{ReachedTablesKeepTheRule};
-ghost use Rattle.mdl_steps.specs.RuleLaws.{FreeLocksAreAsTheirWordsTell, HeldLocksAreAsTheirRecordsTell, TakenLatchesAreHeld, NotedVersionsStand, ReadsAreOfWhatStands, WaitersAreAsTheirWordsTell, NobodyElseWaits};
+ghost use Rattle.mdl_steps.specs.RuleLaws.{FreeLocksAreAsTheirWordsTell, HeldLocksAreAsTheirRecordsTell, TakenLatchesAreHeld, NotedVersionsStand, PinnedPlacesHaveTheirKeys, PinsAreCounted, ReadsAreOfWhatStands, WaitersAreAsTheirWordsTell, NobodyElseWaits};
 
 /// The rule holds of each table that is reached by whole steps, and sessions' calls make no other steps ([`Order`](crate::Order)).
 pub fn reached_tables_keep_the_rule()
@@ -22,6 +22,17 @@ pub fn held_locks_are_as_their_records_tell()
 /// A latch that isn't free is held by a session, and its word has that session's number. So one of the two laws above applies to each lock.
 pub fn taken_latches_are_held()
     ensures { TakenLatchesAreHeld }
+{}
+
+/// The word of a place's pins is the number of sessions that know the place's key. So a session that holds the directory's latch and reads 0
+/// there may give the place to another key.
+pub fn pins_are_counted()
+    ensures { PinsAreCounted }
+{}
+
+/// A place has the key that a session knows to be there, as long as the session pins it: no step gives it to another key meanwhile.
+pub fn pinned_places_have_their_keys()
+    ensures { PinnedPlacesHaveTheirKeys }
 {}
 
 /// A version that a session noted under a ticket is the current one as long as the session has that ticket: no other session changes it

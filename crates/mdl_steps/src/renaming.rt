@@ -24,7 +24,6 @@ use std::alloc::AllocError;
 impl TableSeat {
     /// Gives a place to a key that has none, in the directory in hand. The directory's latch can't be given back before the place's book is
     /// that of the key ([`TableSeat::put_latch_renaming`]).
-    #[tactic(auto, using(crate::proofs::Exchanging::put_there))]
     pub fn exchange_key(
         &mut self,
         _latch: &LatchedDirectory,

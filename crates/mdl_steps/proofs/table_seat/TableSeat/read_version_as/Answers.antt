@@ -21,3 +21,6 @@ load-requires g c =
 
 pub returns-clause-one : goal.returns-clause-one
 returns-clause-one g c = rw (← c.self.view_is) ((c.load.ensures.2.1 c.args.place c.version_word.ensures).2)
+
+pub returns-clause-fits : goal.returns-clause-fits
+returns-clause-fits g c = rw (← c.self.view_is) ((c.load.ensures.2.1 c.args.place c.version_word.ensures).3)
