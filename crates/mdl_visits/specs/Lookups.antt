@@ -1,17 +1,17 @@
 -- What a session meets as it looks a key's place up, and what it knows then.
-use Rattle.std.specs.Prelude.{◌≡◌, ◌≢◌, ℕ, ◌+◌, ◌<◌, ◌≤◌, ◌⊎◌, List, ◌∷◌, [], ◌++◌, length, Contains, Option, Some, None, Result, Ok, Err, IfOk}
+use Rattle.std.specs.Prelude.{◌≡◌, ◌≢◌, ℕ, ◌+◌, ◌<◌, ◌≤◌, ◌⊎◌, false, List, ◌∷◌, [], ◌++◌, length, Contains, Option, Some, None, Result, Ok, Err, IfOk}
 use Rattle.mdl_steps.specs.declared.slot.Slot.TheVariants as slot
-use Rattle.mdl_visits.specs.FirstWords.{AllQuiet, Each, HasDirectory, IsDirectory, IsFresh, IsPlace, IsQuiet, KeyName, Keys, KnownKey, LatchRecord, MakesSteps, Mine, NoPlace, PutLatch, ReadPins, ResolveError, SeatState, StepRecord, and_made, consulted, deeds_of, exchanging, held_at, key_at, latch_word, latched, listing, pins_word, place_among, rest}
+use Rattle.mdl_visits.specs.FirstWords.{AllQuiet, Each, HasDirectory, IsDirectory, IsFresh, IsPlace, IsQuiet, KeyName, Keys, KnownKey, KnowsKeys, LatchRecord, MakesSteps, Mine, NoPlace, PutLatch, ReadPins, ResolveError, SeatState, StepRecord, and_made, consulted, deeds_of, exchanging, held_at, is_key_known, is_pinned, key_at, latch_word, latched, listing, pins_word, place_among, rest}
 use Rattle.mdl_visits.specs.declared.resolve_error.ResolveError.TheVariants.{OutOfMemory}
 
 -- what a session has, with one more key that it knows
 abbrev pub knowing_key : KnownKey → Mine → Mine
 knowing_key known m = (record m.0 { known = m.0.known ++ known ∷ [] }, m.1)
 
--- the session knows that a key has this place of the table, and nothing else changed, except that steps without deeds were made
+-- the session knows that a key has this place of the table, which it didn't pin before. Nothing else changed, except that steps without deeds were made
 abbrev pub LearnsKeyPlace : KeyName → ℕ → SeatState → SeatState → Type 0
 LearnsKeyPlace key place s s′ =
-    (0 < place) × (place < s.table.slots) × MakesSteps (knowing_key (record { key = key; place = place }) s.me) s′.me
+    (0 < place) × (place < s.table.slots) × MakesSteps (knowing_key (record { key = key; place = place }) s.me) s′.me × (is_pinned place s.me.0 ≡ false)
 
 -- the step that gives the directory's latch back, by whose record these are the keys
 abbrev pub given_back : Keys → Mine → StepRecord
@@ -95,8 +95,9 @@ pub record IsNext (place : ℕ) (key : KeyName) (k : Keys) (s : SeatState) : Typ
 abbrev pub relisted : List StepRecord → Keys → Option ℕ → Mine → Mine
 relisted made k idle m = (record m.0 { log = m.0.log ++ made; directory = Some k; idle = idle }, (0, slot.Directory k) ∷ rest m.1)
 
--- a key's place was looked up by a record that the seat had. The seat has the record that is left then, by which the key is at the place of the answer.
--- Nothing else changed, except that steps without deeds were made, and on which place the seat relies to be unpinned
+-- a key's place was looked up by a record that the seat had. The seat has the record that is left then, by which the key is at the place of the answer. If
+-- the session knows keys by the record, but not this one, it doesn't pin that place. Nothing else changed, except that steps without deeds were made, and on
+-- which place the seat relies to be unpinned
 pub record HasLooked (slots : ℕ) (key : KeyName) (k : Keys) (result : Result ℕ ResolveError) (old new : Mine) : Type 0 where
   pub made : List StepRecord
   pub left : Keys
@@ -106,6 +107,7 @@ pub record HasLooked (slots : ℕ) (key : KeyName) (k : Keys) (result : Result �
   pub did : deeds_of made ≡ []
   pub answer : IsLookupAnswer slots key k left made result
   pub stands : IfOk result (λ place. (0 < place) × (place < slots) × (key_at left.keys place ≡ Some key))
+  pub apart : KnowsKeys k.keys old.0 → is_key_known old.0.known key ≡ false → IfOk result (λ place. is_pinned place old.0 ≡ false)
 
 -- the new key was given its place: the seat has the record with it from then on, and at each step before it had one of the two records
 abbrev pub HasNamed : KeyName → Keys → Mine → Mine → Type 0
