@@ -1,6 +1,7 @@
 -- The step by which a place gets another key: nothing is done in the system. The locks of both keys are empty.
 use Rattle.std.proofs.Common.{◌≡◌, ◌≢◌, ℕ, suc, ◌+◌, ◌-◌, ◌*◌, ◌<◌, ◌≤◌, inl, inr, List, [], length, length-set, set, get_or, Some, None, refl, sym, ap, ◌∙◌, subst, arith, get_or-set_other, slice_get}
 use Rattle.mdl_defs.specs.VersionedDefinitions.{nothing_yet}
+use Rattle.mdl_steps.proofs.Unpinned.{no_fast, no_tickets}
 use Rattle.mdl_steps.specs.declared.slot.Slot.TheVariants as slot
 use Rattle.mdl_steps_laws.proofs.FirstLemmas.{AreLocksOf, BookView, IsBookAt, KeyName, Keys, LatchRecord, Leaves, Lock, Maybe, MayRename, Mine, RenamingRests, Rule, Slot, State, VersionedDefinition, View, after_giving, alone, alone_desk, at_map, at_set, book_else, desk_of, empty_book, empty_lock, exchanging, fast_at, fast_same, find_key, get_elem?, HasPlace, held_at, held_at-dropped, held_at-undropped, holder_at, into_rule, key_at, latch_word, nat_told, not_there, renamed, same_book, same_keys, set_else, set_here, some}
 use Rattle.mdl_steps_laws.proofs.RestKeys.{one_keys}
@@ -31,7 +32,10 @@ module _ (s : State Slot View) (r : Rule s) (place : ℕ) (has : HasPlace s plac
   desk = r.directory_agrees.held id (desk_of me.0) (at_map desk_of s.views id me.0 seat) k may.key_is.recorded
 
   vacant : (fast_at s place ≡ []) × (ok.book.granted ≡ []) × (ok.book.waiting ≡ [])
-  vacant = unpinned_empty s r place has.0 has.1 (r.pins_ok.idle id me.0 seat place may.idle).1
+  vacant =
+      let nobody = (r.pins_ok.idle id me.0 seat place may.idle).1 in
+      let none = no_tickets s r place nobody (key_at r.keys place) (cell s place).version ok.book ok.book_ok in
+      (no_fast s r place nobody, none.0, none.1)
 
   bare : ok.book.standing ≡ nothing_yet
   bare =

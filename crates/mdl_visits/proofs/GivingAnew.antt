@@ -11,7 +11,7 @@ use Rattle.mdl_visits.proofs.Gathering.{back_steps, gives_back, as_reads, no_ste
 use Rattle.mdl_visits.proofs.Lookups.{in_use_more, unused_more}
 use Rattle.mdl_visits.proofs.Seats.{mine, table_of}
 use Rattle.mdl_visits.proofs.Steps.{each_append, each_map, none_then}
-use Rattle.mdl_visits.specs.FirstWords.{exchanging, pins_word, rest}
+use Rattle.mdl_visits.specs.FirstWords.{exchanging, is_pinned, pins_word, rest}
 use Rattle.mdl_visits.specs.Lookups.{AreInUse, HasGiven, HoldsKeys, IsUsed, MayGiveAnew, MeetsUse, PassesOver, TakesUnused, WasInUse, WasUnused, and_idle}
 use Rattle.mdl_visits.specs.Prelude.{MayRename, ReadPins, met_pins, renamed}
 use Rattle.mdl_visits.specs.declared.resolve_error.ResolveError.TheVariants.{NoPlace, OutOfMemory}
@@ -313,7 +313,7 @@ module _ (key : KeyName) (k : Keys) (a : SeatState) (holds : HoldsKeys k a) (non
             did = did_none left e went gives;
             answer = inr (inr (none, full, uses left e went gives, unused left e went gives, refl));
             stands = (some, inside, put_at k.keys (place - 1) key (omega arith));
-            apart = λ known new. (taken.fresh.unpinned refl).2 ∙ refl;
+            apart = λ known new. ap (λ (m : Mine). is_pinned place m.0) (sym over.now) ∙ (taken.fresh.unpinned refl).2;
           },
         )
 
