@@ -64,8 +64,8 @@ FitsKey a place standing = MatchOption (key_known place a.known) ⊥ (λ key. Ma
 
 -- what always holds of a session: its tickets have rising numbers, below that of the ticket that it waits for. They and its wait are at places that it
 -- pins. The pinned places rise, and it knows their keys. No key that it knows has two places, and no place two keys. If its wait is settled, it has a wait. A
--- version that it noted at a place is that of its last read there. Of a place it read no version newer than the last one, and what it read last is valid for
--- the place's key.
+-- version that it noted at a place is that of its last read there. What it read last is then valid for the place's key. Of a place it read no version newer
+-- than the last one.
 pub record IsSound (a : SessionData) : Type 0 where
   pub rising : IsRising a.own
   pub below : are_below (first_free (is_waiting a.own) a.numbers) a.own.held ≡ true
@@ -77,7 +77,7 @@ pub record IsSound (a : SessionData) : Type 0 where
   pub settled : is_some a.settled ≡ true → is_waiting a.own ≡ true
   pub noted : (place version : ℕ) → noted_at place a.notes ≡ Some version → IsNoted a place version
   pub newest : (place : ℕ) (standing : VersionedDefinition) → last_read place a.reads ≡ Some standing → is_newest place standing.version a.reads ≡ true
-  pub fits : (place : ℕ) (standing : VersionedDefinition) → last_read place a.reads ≡ Some standing → FitsKey a place standing
+  pub fits : (place version : ℕ) (standing : VersionedDefinition) → noted_at place a.notes ≡ Some version → last_read place a.reads ≡ Some standing → FitsKey a place standing
 
 -- ---- what it is as a space
 

@@ -105,5 +105,5 @@ begins-sound number = record {
   settled = λ some. cc;
   noted = λ place version noted. cc;
   newest = λ place standing read. cc;
-  fits = λ place standing read. cc;
+  fits = λ place version standing noted read. cc;
 }

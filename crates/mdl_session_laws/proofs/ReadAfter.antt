@@ -136,10 +136,11 @@ newest-on a b sound (inr h) place standing is = elim (eqb_tells place h.place) [
       (sound.newest place standing (sym (last-elsewhere h.place place h.standing a.reads b.reads h.last apart.1) ∙ is))
 ]
 
--- and it may stand there, as what is known stays known
+-- and where its version is noted, it may stand there, as what is known stays known
 pub fits-on : (a b : SessionData) → IsSound a → ((place : ℕ) (key : KeyName) → key_known place a.known ≡ Some key → key_known place b.known ≡ Some key)
-    → ReadsNothing a b ⊎ HasLearnt a b → (place : ℕ) (standing : VersionedDefinition) → last_read place b.reads ≡ Some standing → FitsKey b place standing
-fits-on a b sound knows lets place standing is = on (before lets)
+    → ReadsNothing a b ⊎ HasLearnt a b → (place version : ℕ) (standing : VersionedDefinition) → noted_at place b.notes ≡ Some version → last_read place b.reads ≡ Some standing
+    → FitsKey b place standing
+fits-on a b sound knows lets place version standing noted is = on (before lets)
   where
     on : FitsKey a place standing → FitsKey b place standing
     on = elim (key_known place a.known) as (λ o. ((key : KeyName) → o ≡ Some key → key_known place b.known ≡ Some key)
@@ -150,12 +151,12 @@ fits-on a b sound knows lets place standing is = on (before lets)
         ] (knows place)
 
     before : ReadsNothing a b ⊎ HasLearnt a b → FitsKey a place standing
-    before (inl nothing) = sound.fits place standing (ap (last_read place) (sym nothing.reads) ∙ is)
+    before (inl nothing) = sound.fits place version standing (nothing.noted place version noted) (ap (last_read place) (sym nothing.reads) ∙ is)
     before (inr h) = elim (eqb_tells place h.place) [
       | inl same ↦ (
           let there : Some h.standing ≡ Some standing =
           sym (last-here h.place h.standing a.reads b.reads h.last) ∙ ap (λ p. last_read p b.reads) (sym same.1) ∙ is in
           let one : h.standing ≡ standing = cc in
           subst (λ p. FitsKey a p standing) (sym same.1) (subst (FitsKey a h.place) one h.fits))
-      | inr apart ↦ sound.fits place standing (sym (last-elsewhere h.place place h.standing a.reads b.reads h.last apart.1) ∙ is)
+      | inr apart ↦ sound.fits place version standing (sym (h.elsewhere place apart.1) ∙ noted) (sym (last-elsewhere h.place place h.standing a.reads b.reads h.last apart.1) ∙ is)
     ]

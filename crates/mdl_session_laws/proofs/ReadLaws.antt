@@ -159,7 +159,7 @@ session-stands a b _ _ w place standing speaks_for other holds joins has = stand
 pub session-reads_fit : (a : SessionData) (w place : ℕ) (key : KeyName) (standing : VersionedDefinition) → SpeaksFor a w → Knows a w place key → HasRead a w place standing
     → MayStand key.namespace standing
 session-reads_fit a w place key standing speaks_for knows has =
-    subst (λ (o : Option KeyName). MatchOption o ⊥ (λ k. MayStand k.namespace standing)) knows (speaks_for.1.fits place standing has.1)
+    subst (λ (o : Option KeyName). MatchOption o ⊥ (λ k. MayStand k.namespace standing)) knows (speaks_for.1.fits place standing.version standing has.0 has.1)
 
 -- what is read is seen
 pub session-sees : (a : SessionData) (w place : ℕ) (standing : VersionedDefinition) → SpeaksFor a w → HasRead a w place standing → HasSeen a w place standing.version

@@ -76,8 +76,8 @@ IsSound-prop a x y =
     let settled_prop : IsProp (is_some a.settled ≡ true → is_waiting a.own ≡ true) = hlevel props in
     let noted_prop : IsProp ((place version : ℕ) → noted_at place a.notes ≡ Some version → IsNoted a place version) = hlevel props in
     let newest_prop : IsProp ((place : ℕ) (standing : VersionedDefinition) → last_read place a.reads ≡ Some standing → is_newest place standing.version a.reads ≡ true) = hlevel props in
-    let fits_prop : IsProp ((place : ℕ) (standing : VersionedDefinition) → last_read place a.reads ≡ Some standing → FitsKey a place standing) =
-    Π_prop (λ place. Π_prop (λ standing. Π_prop (λ e. FitsKey-prop a place standing))) in
+    let fits_prop : IsProp ((place version : ℕ) (standing : VersionedDefinition) → noted_at place a.notes ≡ Some version → last_read place a.reads ≡ Some standing → FitsKey a place standing) =
+    Π_prop (λ place. Π_prop (λ version. Π_prop (λ standing. Π_prop (λ n. Π_prop (λ e. FitsKey-prop a place standing))))) in
     λ i. record {
       rising = rising_prop x.rising y.rising i;
       below = below_prop x.below y.below i;

@@ -27,7 +27,7 @@ module _ (m : Mine) (a : Ask) where
     | inl free ↦ (let took = (play.1 at).0 free in kept m′ _ took.2 refl is)
     | inr taken ↦ kept m′ _ ((play.1 at).1 taken) refl is
   ]
-  asked_by s left act st found m′ (Makes.PutsDirectory more at play) whole is = kept m′ _ (play.1 at) refl is
+  asked_by s left act st found m′ (Makes.PutsDirectory at play) whole is = kept m′ _ (play.1 at) refl is
   asked_by s left act st found m′ (Makes.TakesLatch q at play) whole is = elim (nat_told found 0) [
     | inl free ↦ (let took = (play.1 q at).0 free in kept m′ _ took.2 refl is)
     | inr taken ↦ kept m′ _ ((play.1 q at).1 taken) refl is
@@ -37,6 +37,7 @@ module _ (m : Mine) (a : Ask) where
   asked_by s left act st found m′ (Makes.PutsReading q may at play) whole is = kept m′ _ (play.1 q may.0.book at may.1.holds.carried) refl is
   asked_by s left act st found m′ (Makes.PutsSearched q may sees at play) whole is = kept m′ _ (play.1 q at) refl is
   asked_by s left act st found m′ (Makes.PutsKey q key k h may at play) whole is = kept m′ _ (play.1 q (empty_book key) at may.holds.carried) refl is
+  asked_by s left act st found m′ (Makes.PutsOtherKey q key k h may at play) whole is = kept m′ _ (play.1 q (empty_book key) at may.holds.carried) refl is
   asked_by s left act st found m′ (Makes.RaisesFlags q slow obtrusive at mask play) whole is = kept m′ _ (play.1 q slow obtrusive at mask) refl is
   asked_by s left act st found m′ (Makes.LowersFlags q deeds slow obtrusive may at mask play) whole is = kept m′ _ (play.1 q slow obtrusive (all_booked m.0.number deeds may.0.book) at mask may.1.holds.carried) refl is
   asked_by s left act st found m′ (Makes.ReadsWord q at play) whole is = kept m′ _ (play.1 q at) refl is
@@ -62,6 +63,9 @@ module _ (m : Mine) (a : Ask) where
   ]
   asked_by s left act st found m′ (Makes.ReleasesFast q n at play) whole is = kept m′ _ (play.1 q at) refl is
   asked_by s left act st found m′ (Makes.Materialises q weight h may at play) whole is = kept m′ _ (play.1 q at) refl is
+  asked_by s left act st found m′ (Makes.Pins q key k may at play) whole is = kept m′ _ (play.1 q at) refl is
+  asked_by s left act st found m′ (Makes.Unpins q may at play) whole is = kept m′ _ (play.1 q at) refl is
+  asked_by s left act st found m′ (Makes.ReadsPins q at play) whole is = kept m′ _ (play.1 q at) refl is
 
 -- ---- changes
 

@@ -75,7 +75,7 @@ module _ (place : ℕ) (m : Mine) where
       | inl free ↦ (let took = (play.1 at).0 free in same m′ _ took.2 refl refl)
       | inr taken ↦ same m′ _ ((play.1 at).1 taken) refl refl
     ]
-    keeps_debts left act st m′ (Makes.PutsDirectory more at play) whole other_place = same m′ _ (play.1 at) refl refl
+    keeps_debts left act st m′ (Makes.PutsDirectory at play) whole other_place = same m′ _ (play.1 at) refl refl
     keeps_debts left act st m′ (Makes.TakesLatch q at play) whole other_place = elim (nat_told (slice_index s.words st.word) 0) [
       | inl free ↦
           let took = (play.1 q at).0 free in
@@ -98,6 +98,8 @@ module _ (place : ℕ) (m : Mine) where
     keeps_debts left act st m′ (Makes.PutsReading q may at play) whole other_place =
         gone q may.0 may.1.holds.recorded may.4 m′ _ (play.1 q may.0.book at may.1.holds.carried) refl refl
     keeps_debts left act st m′ (Makes.PutsKey q key k h may at play) whole other_place =
+        gone q h may.holds.recorded may.unfreed m′ _ (play.1 q (empty_book key) at may.holds.carried) refl refl
+    keeps_debts left act st m′ (Makes.PutsOtherKey q key k h may at play) whole other_place =
         gone q h may.holds.recorded may.unfreed m′ _ (play.1 q (empty_book key) at may.holds.carried) refl refl
     keeps_debts left act st m′ (Makes.RaisesFlags q slow obtrusive at mask play) whole other_place =
         altered q (raised slow obtrusive) (λ h. refl) (λ h none. none) m′ _ (play.1 q slow obtrusive at mask) refl refl
@@ -141,3 +143,6 @@ module _ (place : ℕ) (m : Mine) where
     })
     keeps_debts left act st m′ (Makes.Materialises q weight h may at play) whole other_place =
         altered q (with_granted (moved q m.0)) (λ x. refl) (λ x none. none) m′ _ (play.1 q at) refl refl
+    keeps_debts left act st m′ (Makes.Pins q key k may at play) whole other_place = same m′ _ (play.1 q at) refl refl
+    keeps_debts left act st m′ (Makes.Unpins q may at play) whole other_place = same m′ _ (play.1 q at) refl refl
+    keeps_debts left act st m′ (Makes.ReadsPins q at play) whole other_place = same m′ _ (play.1 q at) refl refl

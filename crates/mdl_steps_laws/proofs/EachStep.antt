@@ -2,12 +2,13 @@
 use Rattle.std.proofs.Common.{◌≡◌, ℕ, zero, suc, ◌+◌, ◌-◌, ◌%◌, ◌^◌, ◌<◌, Bool, false, inl, inr, List, [], ◌∷◌, ◌++◌, length, set, get_or, Some, refl, sym, ap, ◌∙◌, subst, arith, Option}
 use Rattle.mdl_steps.specs.declared.slot.Slot.TheVariants as slot
 use Rattle.mdl_steps.specs.declared.step_kind.StepKind.TheVariants as step
-use Rattle.mdl_steps_laws.proofs.FirstLemmas.{Act, Ask, BeginWait, BookView, Brings, BringsDeeds, BringsDeedsAt, BringsOrRests, Change, ChangeDefinition, Deed, EachStepIsOneEvent, EndGrantedWait, EndLostWait, Gives, Grant, GrantWaiter, HasPlace, IsOf, IsRest, IsWhole, KeyName, LatchRecord, Loss, Makes, MayAct, MayCancel, MayGrant, MayGrantFast, MayLower, MayMaterialise, MayOpen, MayPut, MayReleaseFast, MayWriteVersion, Maybe, Mine, Mode, Release, Rests, Rule, SettleLost, Slot, State, Step, StepKind, TableChange, Takes, Ticket, Under, Unsettled, Valid, View, WaitState, after_giving, after_lowering, after_put, after_step, after_taking, after_wait, after_word, after_writing, all_booked, asked_ticket, at_map, carried_after, code_of, consulted, empty_book, ended_granted, ended_lost, enrol_word, flags_lowered, found-passes, get_elem?, gives, granted_fast, homes_after, informed, is_own, is_passed, keeps, latch_word, latched, lock_word, lost_as, lost_state, materialised, met_wait_by, met_word_by, named, nat_told, none, obtrusive_flag, of_lock, opened, own_parts, put_back, read_and_put, redefined, redefining, released_fast, rest, ruled_keys, searched, served, settled_granted, settled_lost, some, standing_after, stepped, takes, takes_directory, takes_latch, ticket_by, ticket_of, unlatched, version_word, wait_in, wait_word, waiter_of, waits, wished, word_at}
+use Rattle.mdl_steps_laws.proofs.FirstLemmas.{Act, Ask, BeginWait, BookView, Brings, BringsDeeds, BringsDeedsAt, BringsOrRests, Change, ChangeDefinition, Deed, EachStepIsOneEvent, EndGrantedWait, EndLostWait, Gives, Grant, GrantWaiter, HasPlace, IsOf, IsRest, IsWhole, KeyName, LatchRecord, Loss, Makes, MayAct, MayCancel, MayGrant, MayGrantFast, MayLower, MayMaterialise, MayOpen, MayPut, MayReleaseFast, MayWriteVersion, Maybe, Mine, Mode, Release, Rests, Rule, SettleLost, Slot, State, Step, StepKind, TableChange, Takes, Ticket, Under, Unsettled, Valid, View, WaitState, after_giving, after_lowering, after_put, after_step, after_taking, after_wait, after_word, after_writing, all_booked, asked_ticket, at_map, carried_after, code_of, consulted, dismissed, empty_book, ended_granted, ended_lost, enrol_word, flags_lowered, found-passes, get_elem?, gives, granted_fast, homes_after, is_own, is_passed, keeps, latch_word, latched, lock_word, lost_as, lost_state, materialised, met_wait_by, met_word_by, named, nat_told, none, obtrusive_flag, of_lock, opened, own_parts, pins_word, put_back, read_and_put, redefined, redefining, released_fast, renamed, rest, ruled_keys, searched, served, settled_granted, settled_lost, some, standing_after, stepped, takes, takes_directory, takes_latch, ticket_by, ticket_of, unlatched, version_word, wait_in, wait_word, waiter_of, waits, wished, word_at}
 use Rattle.mdl_steps_laws.proofs.FastEvents.{granting_fast_grants, only_passes, releasing_fast_releases}
 use Rattle.mdl_steps_laws.proofs.FastRests.{materialising_rests, reading_unlatched_rests}
 use Rattle.mdl_steps_laws.proofs.KeysStay.{first_slot}
-use Rattle.mdl_steps_laws.proofs.RestKeys.{consulting_rests, drawing_rests, informing_rests, naming_rests}
-use Rattle.mdl_steps_laws.proofs.RestKinds.{finding_version_rests, lowering_rests, missing_directory_rests, missing_rests, putting_reading_rests, putting_rests, putting_searched_rests, putting_served_rests, raising_rests, reading_rests, reading_version_rests, taking_rests}
+use Rattle.mdl_steps_laws.proofs.Renaming.{renaming_rests}
+use Rattle.mdl_steps_laws.proofs.RestKeys.{consulting_rests, dismissing_rests, drawing_rests, naming_rests}
+use Rattle.mdl_steps_laws.proofs.RestKinds.{finding_version_rests, lowering_rests, missing_directory_rests, missing_rests, pinning_rests, putting_reading_rests, putting_rests, putting_searched_rests, putting_served_rests, raising_rests, reading_pins_rests, reading_rests, reading_version_rests, taking_rests, unpinning_rests}
 use Rattle.mdl_steps_laws.proofs.RestSplits.{splitting_rests}
 use Rattle.mdl_steps_laws.proofs.StepEvents.{lowering_brings, putting_brings, writing_brings}
 use Rattle.mdl_steps_laws.proofs.StepKeys.{granted_key, known_key, recorded_book, waiting_key}
@@ -308,12 +309,12 @@ module _ (s t : State Slot View) (r : Rule s) (r′ : Rule t) (id : ℕ) (m m′
       rests (after_step s (enrol_word (length s.homes)) left id m′) (becomes (enrol_word (length s.homes)) left s.homes m′.0 at refl (stay whole.1) refl)
       (drawing_rests s r id m m′ seat st found left play)
   brings (Makes.TakesDirectory at play) whole = takes_directory_rests at play whole
-  brings (Makes.PutsDirectory more at play) whole =
+  brings (Makes.PutsDirectory at play) whole =
       let k = whole.0.0 in
       let is = play.1 at in
-      rests (after_giving s 0 (slot.Directory k) id (informed more m))
-      (becomes (latch_word 0) 0 (set s.homes 0 (some (slot.Directory k))) (informed more m).0 at whole.1.0 (given 0 (slot.Directory k) whole.0.1.carried whole.1.1) (ap (λ (x : Mine). x.0) is))
-      (informing_rests s r id m seat k whole.0.1.recorded more)
+      rests (after_giving s 0 (slot.Directory k) id (dismissed m))
+      (becomes (latch_word 0) 0 (set s.homes 0 (some (slot.Directory k))) (dismissed m).0 at whole.1.0 (given 0 (slot.Directory k) whole.0.1.carried whole.1.1) (ap (λ (x : Mine). x.0) is))
+      (dismissing_rests s r id m seat k whole.0.1.recorded)
   brings (Makes.TakesLatch q at play) whole = takes_rests q whole.0 at play whole.1
   brings (Makes.PutsLatch q deeds may at play) whole = puts q deeds whole.0 may at (play.1 q at) whole.1
   brings (Makes.PutsServed q table may at play) whole =
@@ -343,6 +344,12 @@ module _ (s t : State Slot View) (r : Rule s) (r′ : Rule t) (id : ℕ) (m m′
       (becomes (latch_word q) 0 (set s.homes q (some (slot.Place (empty_book key)))) (named q key m).0 at whole.1.0
       (given q (slot.Place (empty_book key)) may.holds.carried whole.1.1) (ap (λ (x : Mine). x.0) is))
       (naming_rests s r q whole.0 id m seat key k h may)
+  brings (Makes.PutsOtherKey q key k h may at play) whole =
+      let is = play.1 q (empty_book key) at may.holds.carried in
+      rests (after_giving s q (slot.Place (empty_book key)) id (renamed q key m))
+      (becomes (latch_word q) 0 (set s.homes q (some (slot.Place (empty_book key)))) (renamed q key m).0 at whole.1.0
+      (given q (slot.Place (empty_book key)) may.holds.carried whole.1.1) (ap (λ (x : Mine). x.0) is))
+      (renaming_rests s r q whole.0 id m seat key k h may)
   brings (Makes.RaisesFlags q slow obtrusive at mask play) whole =
       rests (after_step s (lock_word q) left id m′) (becomes (lock_word q) left s.homes m′.0 at refl (stay whole.2) refl)
       (raising_rests s r q whole.0 id m m′ seat whole.1.0 whole.1.1 st found left slow obtrusive at mask play)
@@ -393,6 +400,15 @@ module _ (s t : State Slot View) (r : Rule s) (r′ : Rule t) (id : ℕ) (m m′
       )
   brings (Makes.ReleasesFast q number at play) whole = releases_one q number whole.2.0 whole.0 whole.1 whole.2.1 at (play.1 q at) whole.2.2.0 whole.2.2.1
   brings (Makes.Materialises q weight h may at play) whole = moves_all q weight h whole.0 may at (play.1 q at) whole.1.0 whole.1.1
+  brings (Makes.Pins q key k may at play) whole =
+      rests (after_step s (pins_word q) left id m′) (becomes (pins_word q) left s.homes m′.0 at refl (stay whole.1.1) refl)
+      (pinning_rests s r q whole.0 id m m′ seat st found left at play)
+  brings (Makes.Unpins q may at play) whole =
+      rests (after_step s (pins_word q) left id m′) (becomes (pins_word q) left s.homes m′.0 at refl (stay whole.1.1) refl)
+      (unpinning_rests s r q whole.0 id m m′ seat st found left at play)
+  brings (Makes.ReadsPins q at play) whole =
+      rests (after_step s (pins_word q) left id m′) (becomes (pins_word q) left s.homes m′.0 at refl (stay whole.1.1) refl)
+      (reading_pins_rests s r q whole.0 id m m′ seat st found left at play)
 
 -- ---- each step
 

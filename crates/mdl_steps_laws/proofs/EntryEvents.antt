@@ -165,7 +165,7 @@ module _ (s t : State Slot View) (m : Mine) (st : Step Slot) (size : st.slots �
     | inl free ↦ (let took = (play.1 at).0 free in adds m′ _ took.2 _ refl (refl, brought))
     | inr taken ↦ adds m′ _ ((play.1 at).1 taken) _ refl (refl, brought)
   ]
-  added found m′ left act (Makes.PutsDirectory more at play) whole brought = adds m′ _ (play.1 at) _ refl (0, refl, brought)
+  added found m′ left act (Makes.PutsDirectory at play) whole brought = adds m′ _ (play.1 at) _ refl (0, refl, brought)
   added found m′ left act (Makes.TakesLatch q at play) whole brought = elim (nat_told found 0) [
     | inl free ↦ (let took = (play.1 q at).0 free in adds m′ _ took.2 _ refl (refl, brought))
     | inr taken ↦ adds m′ _ ((play.1 q at).1 taken) _ refl (refl, brought)
@@ -175,6 +175,7 @@ module _ (s t : State Slot View) (m : Mine) (st : Step Slot) (size : st.slots �
   added found m′ left act (Makes.PutsReading q may at play) whole brought = adds m′ _ (play.1 q may.0.book at may.1.holds.carried) _ refl (q, refl, brought)
   added found m′ left act (Makes.PutsSearched q may sees at play) whole brought = adds m′ _ (play.1 q at) _ refl (q, refl, brought)
   added found m′ left act (Makes.PutsKey q key k h may at play) whole brought = adds m′ _ (play.1 q (empty_book key) at may.holds.carried) _ refl (q, refl, brought)
+  added found m′ left act (Makes.PutsOtherKey q key k h may at play) whole brought = adds m′ _ (play.1 q (empty_book key) at may.holds.carried) _ refl (q, refl, brought)
   added found m′ left act (Makes.RaisesFlags q slow obtrusive at mask play) whole brought = adds m′ _ (play.1 q slow obtrusive at mask) _ refl (refl, brought)
   added found m′ left act (Makes.LowersFlags q deeds slow obtrusive may at mask play) whole brought =
       adds m′ _ (play.1 q slow obtrusive (all_booked m.0.number deeds may.0.book) at mask may.1.holds.carried) _ refl (q, refl, brought)
@@ -202,6 +203,9 @@ module _ (s t : State Slot View) (m : Mine) (st : Step Slot) (size : st.slots �
   ]
   added found m′ left act (Makes.ReleasesFast q number at play) whole brought = adds m′ _ (play.1 q at) _ refl (q, refl, brought)
   added found m′ left act (Makes.Materialises q weight h may at play) whole brought = adds m′ _ (play.1 q at) _ refl (refl, brought)
+  added found m′ left act (Makes.Pins q key k may at play) whole brought = adds m′ _ (play.1 q at) _ refl (refl, brought)
+  added found m′ left act (Makes.Unpins q may at play) whole brought = adds m′ _ (play.1 q at) _ refl (refl, brought)
+  added found m′ left act (Makes.ReadsPins q at play) whole brought = adds m′ _ (play.1 q at) _ refl (refl, brought)
 
 -- ---- lists of steps
 

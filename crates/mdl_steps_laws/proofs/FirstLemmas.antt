@@ -17,6 +17,6 @@ pub use Rattle.mdl_steps_laws.proofs.WaitEvents.{book_was, in_locks, in_rule, in
 pub use Rattle.mdl_steps_laws.proofs.WaitLists.{code_most, code_waits, leaves_order, map_joined, not_waiting, takes_turn, told_alike, waiter_is, waiting_by}
 pub use Rattle.mdl_steps_laws.proofs.WaitSteps.{Stays, lock_else, now_there, other_session, unended_else, unended_same, was_there}
 pub use Rattle.mdl_steps_laws.proofs.WaitsTold.{code_by, found_in, running_tables_tell_waits, state_by, waiter_by}
-pub use Rattle.mdl_steps_laws.specs.FirstWords.{DeadlocksGoThrough, IsDeadlock, Kept, KnownKey, Leads, Loss, MayGrantFast, MayMaterialise, MayReleaseFast, NoneForgottenAt, StepKind, SystemStep, WaitsFor, Wishes, all_but_flags, blocks_by, consulted, count_with, counts_of, enrol_word, granted_fast, informed, latched, lost_state, materialised, met_word_by, named, none, obtrusive_flag, released_fast, searched, served, takes_directory, takes_latch, unsettled_state, wait_number, wait_state}
-pub use Rattle.mdl_steps_laws.specs.Prelude.{Asking, ForgetsNobody, Gives, HoldsTicket, IsHeld, IsPaidBut, IsSession, IsStepOf, IsUnused, KnowsPlace, MayAct, MayBeGranted, MayCancel, MayClone, MayDowngrade, MayGrant, MayLower, MayMerge, MayOpen, MayPut, MayUpgrade, MayWriteVersion, MeetsWaiter, NotWaited, Takes, TellsLists, Valid, WasSettled, admitting, any_obtrusive, asking, asking_at, cancelling, carried_after, clashes, ended_granted, ended_lost, enqueueing, first_after, found_version, gives, granting_all, has_obtrusive, has_tickets, homes_after, is_obtrusive, is_ready, keeps, kind_of, learnt_version, listing, lock_kind, lowers_flags, met_wait_by, opened, pending, put_back, puts_latch, rest, settled_granted, settled_in, settled_lost, split_off, stepped, takes, waits_behind}
-pub use Rattle.mdl_steps_laws.specs.Words.{AreItsSteps, AreTableChanges, ConsultingRests, DeedsFreeNothing, DrawingRests, EachEntryTellsItsEvent, EachTurnAddsOneEntry, EndingHolds, EndingLeaves, EntriesAreSteps, FindingVersionRests, FreesAndOpensNothing, GrantingFastGrants, GrantingGrantsWaiters, InformingRests, IsFree, IsOfNoWait, IsPaid, IsRest, IsUnfreed, LoweringRests, MakesOneStep, MaterialisingRests, MeetingRests, MissingDirectoryRests, MissingRests, NamingRests, NextMayBeGranted, NoDeadlockIsUnseen, NoDeadlockOnceAllHaveSearched, NobodyIsForgotten, NobodyIsForgottenAtRest, OpeningBegins, PuttingReadingRests, PuttingRests, PuttingSearchedRests, PuttingServedRests, RaisingRests, ReachedTablesAreWellNumbered, ReadingRests, ReadingUnlatchedRests, ReadingVersionRests, ReleasingFastReleases, SettlingLoses, SplittingRests, StepsThatFreeNothingForgetNobody, TakingRests, TellsEvent, WaitersHaveNoFastTickets, WhoSeesNoDeadlockIsInNone, after_giving, after_split, after_step, after_taking, after_wait, after_word, word_at}
+pub use Rattle.mdl_steps_laws.specs.FirstWords.{DeadlocksGoThrough, IsDeadlock, Kept, KnownKey, Leads, Loss, MayGrantFast, MayMaterialise, MayReleaseFast, MayRename, NoneForgottenAt, StepKind, SystemStep, WaitsFor, Wishes, all_but_flags, blocks_by, consulted, count_with, counts_of, dismissed, enrol_word, granted_fast, latched, lost_state, materialised, met_word_by, named, none, obtrusive_flag, pins_word, released_fast, renamed, searched, served, takes_directory, takes_latch, unsettled_state, wait_number, wait_state}
+pub use Rattle.mdl_steps_laws.specs.Prelude.{Asking, ForgetsNobody, Gives, HoldsTicket, IsHeld, IsPaidBut, IsSession, IsStepOf, IsUnpinned, IsUnused, KnowsPlace, MayAct, MayBeGranted, MayCancel, MayClone, MayDowngrade, MayGrant, MayLower, MayMerge, MayOpen, MayPut, MayUpgrade, MayWriteVersion, MeetsWaiter, NotWaited, Takes, TellsLists, Valid, WasSettled, admitting, any_obtrusive, asking, asking_at, cancelling, carried_after, clashes, ended_granted, ended_lost, enqueueing, exchanging, first_after, found_version, gives, granting_all, has_obtrusive, has_tickets, homes_after, is_obtrusive, is_pinned, is_ready, keeps, kind_of, learnt_version, listing, lock_kind, lowers_flags, met_wait_by, opened, pending, put_back, puts_latch, rest, settled_granted, settled_in, settled_lost, split_off, stepped, takes, waits_behind}
+pub use Rattle.mdl_steps_laws.specs.Words.{AreItsSteps, AreTableChanges, ConsultingRests, DeedsFreeNothing, DismissingRests, DrawingRests, EachEntryTellsItsEvent, EachTurnAddsOneEntry, EndingHolds, EndingLeaves, EntriesAreSteps, FindingVersionRests, FreesAndOpensNothing, GrantingFastGrants, GrantingGrantsWaiters, IsFree, IsOfNoWait, IsPaid, IsRest, IsUnfreed, KeysStayWhilePinned, KnownKeysHaveTheirPlaces, LoweringRests, MakesOneStep, MaterialisingRests, MeetingRests, MissingDirectoryRests, MissingRests, NamingRests, NextMayBeGranted, NoDeadlockIsUnseen, NoDeadlockOnceAllHaveSearched, NobodyIsForgotten, NobodyIsForgottenAtRest, OpeningBegins, PinnedPlacesKeepTheirKeys, PinningRests, PuttingReadingRests, PuttingRests, PuttingSearchedRests, PuttingServedRests, RaisingRests, ReachedTablesAreWellNumbered, ReadingPinsRests, ReadingRests, ReadingUnlatchedRests, ReadingVersionRests, ReleasingFastReleases, RenamingRests, SettlingLoses, SplittingRests, StepsThatFreeNothingForgetNobody, TakingRests, TellsEvent, UnpinningRests, VersionedPlacesKeepTheirKeys, WaitersHaveNoFastTickets, WhoSeesNoDeadlockIsInNone, after_giving, after_split, after_step, after_taking, after_wait, after_word, word_at}

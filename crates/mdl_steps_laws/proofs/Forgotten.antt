@@ -271,7 +271,7 @@ module _ (s t : State Slot View) (before : Reached s) (r : Rule s) (r′ : Rule 
     pub go : (made : Makes st m found m′) → IsWhole s left act made → BringsOrRests s t made → NoneForgottenAt b key
     go (Makes.DrawsNumber play) whole brought = quiet (Makes.DrawsNumber play) whole (λ e. e) tt brought
     go (Makes.TakesDirectory at play) whole brought = quiet (Makes.TakesDirectory at play) whole (λ e. e) tt brought
-    go (Makes.PutsDirectory more at play) whole brought = quiet (Makes.PutsDirectory more at play) whole (λ e. e) tt brought
+    go (Makes.PutsDirectory at play) whole brought = quiet (Makes.PutsDirectory at play) whole (λ e. e) tt brought
     go (Makes.TakesLatch q at play) whole brought = quiet (Makes.TakesLatch q at play) whole (λ e. e) tt brought
     go (Makes.PutsLatch q ds may at play) whole brought = puts q ds may at play whole brought
     go (Makes.PutsServed q table may at play) whole brought = elim (nat_told q place) [
@@ -292,6 +292,7 @@ module _ (s t : State Slot View) (before : Reached s) (r : Rule s) (r′ : Rule 
     go (Makes.PutsSearched q may sees at play) whole brought = quiet (Makes.PutsSearched q may sees at play) whole (λ e. e) tt brought
     go (Makes.PutsReading q may at play) whole brought = quiet (Makes.PutsReading q may at play) whole (λ e. e) tt brought
     go (Makes.PutsKey q k d h may at play) whole brought = quiet (Makes.PutsKey q k d h may at play) whole (λ e. e) tt brought
+    go (Makes.PutsOtherKey q k d h may at play) whole brought = quiet (Makes.PutsOtherKey q k d h may at play) whole (λ e. e) tt brought
     go (Makes.RaisesFlags q slow obtrusive at mask play) whole brought = quiet (Makes.RaisesFlags q slow obtrusive at mask play) whole (λ e. e) tt brought
     go (Makes.LowersFlags q ds slow obtrusive may at mask play) whole brought = lowers q ds slow obtrusive may at mask play whole brought
     go (Makes.ReadsWord q at play) whole brought = quiet (Makes.ReadsWord q at play) whole (λ e. e) tt brought
@@ -320,3 +321,6 @@ module _ (s t : State Slot View) (before : Reached s) (r : Rule s) (r′ : Rule 
         releases q number whole.0 (ap (λ (n : ℕ). get_or s.words n 0) at) (ap (λ (x : Mine). x.0.owes) (play.1 q at)) (old (Makes.ReleasesFast q number at play) whole (λ e. e))
         brought.0 brought.1 brought.2.0 brought.2.2
     go (Makes.Materialises q weight h may at play) whole brought = quiet (Makes.Materialises q weight h may at play) whole (λ e. e) tt brought
+    go (Makes.Pins q k d may at play) whole brought = quiet (Makes.Pins q k d may at play) whole (λ e. e) tt brought
+    go (Makes.Unpins q may at play) whole brought = quiet (Makes.Unpins q may at play) whole (λ e. e) tt brought
+    go (Makes.ReadsPins q at play) whole brought = quiet (Makes.ReadsPins q at play) whole (λ e. e) tt brought

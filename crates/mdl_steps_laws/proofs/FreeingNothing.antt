@@ -40,13 +40,14 @@ module _ (s t : State Slot View) where
   pub by_kind : (st : Step Slot) (m : Mine) (was : ℕ) (m′ : Mine) (made : Makes st m was m′) → FreesAndOpensNothing made → BringsOrRests s t made → ForgetsNobody
   by_kind st m was m′ (Makes.DrawsNumber _) keeps brought = nothing brought
   by_kind st m was m′ (Makes.TakesDirectory _ _) keeps brought = nothing brought
-  by_kind st m was m′ (Makes.PutsDirectory _ _ _) keeps brought = nothing brought
+  by_kind st m was m′ (Makes.PutsDirectory _ _) keeps brought = nothing brought
   by_kind st m was m′ (Makes.TakesLatch _ _ _) keeps brought = nothing brought
   by_kind st m was m′ (Makes.PutsLatch q deeds _ _ _) keeps brought = by_deeds_at m.0.number q deeds keeps brought
   by_kind st m was m′ (Makes.PutsServed _ _ _ _ _) keeps brought = nothing brought
   by_kind st m was m′ (Makes.PutsReading _ _ _ _) keeps brought = nothing brought
   by_kind st m was m′ (Makes.PutsSearched _ _ _ _ _) keeps brought = nothing brought
   by_kind st m was m′ (Makes.PutsKey _ _ _ _ _ _ _) keeps brought = nothing brought
+  by_kind st m was m′ (Makes.PutsOtherKey _ _ _ _ _ _ _) keeps brought = nothing brought
   by_kind st m was m′ (Makes.RaisesFlags _ _ _ _ _ _) keeps brought = nothing brought
   by_kind st m was m′ (Makes.LowersFlags q deeds _ _ _ _ _ _) keeps brought = by_deeds_at m.0.number q deeds keeps brought
   by_kind st m was m′ (Makes.ReadsWord _ _ _) keeps brought = nothing brought
@@ -67,6 +68,9 @@ module _ (s t : State Slot View) where
       happens (Grant (of_lock granted.0 (record { session = m.0.number; number = m.0.next; mode = mode }))) tt (λ _. tt) granted.2)
   by_kind st m was m′ (Makes.ReleasesFast _ _ _ _) keeps brought = absurd keeps
   by_kind st m was m′ (Makes.Materialises _ _ _ _ _ _) keeps brought = nothing brought
+  by_kind st m was m′ (Makes.Pins _ _ _ _ _ _) keeps brought = nothing brought
+  by_kind st m was m′ (Makes.Unpins _ _ _ _) keeps brought = nothing brought
+  by_kind st m was m′ (Makes.ReadsPins _ _ _) keeps brought = nothing brought
 
 pub steps_that_free_nothing_forget_nobody : StepsThatFreeNothingForgetNobody
 steps_that_free_nothing_forget_nobody s t r r′ (TableChange.Steps id m m′ st left act seat made moves) whole keeps =

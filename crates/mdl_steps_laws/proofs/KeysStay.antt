@@ -1,13 +1,27 @@
--- Keys keep their places. By a step the places have the keys that they had, or one more key gets the next place, whose book is empty then.
-use Rattle.std.proofs.Common.{◌≡◌, ◌≢◌, ◌⊎◌, ℕ, ◌+◌, ◌<◌, inl, inr, List, [], ◌∷◌, ◌++◌, set, length, get_or, Some, None, refl, sym, ap, ◌∙◌, subst, arith, get_or-set_other, get_or-set_same, Option}
+-- Keys keep their places. By a step the places have the keys that they had, or one more key gets the next place, or another key gets a place that its
+-- session found unpinned, and where nothing was ever defined. The book of such a place is empty then.
+use Rattle.std.proofs.Common.{◌≡◌, ◌≢◌, ◌⊎◌, ℕ, ◌+◌, ◌<◌, inl, inr, List, [], ◌∷◌, ◌++◌, set, length, get_or, Some, None, refl, sym, ap, ◌∙◌, subst, arith, get_or-set_other, get_or-set_same, Option, ◌-◌}
 use Rattle.mdl_steps.specs.declared.slot.Slot.TheVariants as slot
 use Rattle.mdl_steps.specs.declared.step_kind.StepKind.TheVariants as step
-use Rattle.mdl_steps_laws.proofs.FirstLemmas.{Act, AreKeysOf, BookView, Definition, IsBookAt, IsWhole, KeyName, Keys, Makes, Mine, Rule, Slot, State, Step, Valid, View, all_booked, at_inside, at_map, at_set, carried_after, desk_of, empty_book, get_elem?, gives, homes_after, keeps, kept_of, latch_word, listing, logged, nat_told, none, noting_found, one_directory, option_map_or, put_back, redefining, rest, ruled_keys, same_keys, set_else, set_here, some, stepped, takes, version_word, wait_in}
+use Rattle.mdl_steps_laws.proofs.FirstLemmas.{Act, AreKeysOf, BookView, Definition, IsBookAt, IsWhole, KeyName, Keys, Makes, Mine, Rule, Slot, State, Step, Valid, View, all_booked, at_inside, at_map, at_set, carried_after, desk_of, empty_book, exchanging, get_elem?, gives, holder_at, homes_after, keeps, kept_of, latch_word, listing, logged, nat_told, none, noting_found, one_directory, option_map_or, put_back, redefining, rest, ruled_keys, same_keys, set_else, set_here, some, stepped, takes, version_word, wait_in}
 use Rattle.mdl_steps_laws.proofs.RestSteps.{one_book}
 
 -- nobody waits at the place
 abbrev pub IsVacantAt : State Slot View → ℕ → Type 0
 IsVacantAt t place = (book : BookView) → IsBookAt t place book → book.waiting ≡ []
+
+-- one more key has the next place
+abbrev pub OneMore : State Slot View → List KeyName → List KeyName → Type 0
+OneMore t old new = (q : ℕ) × (key : KeyName) × (q ≡ length old + 1) × (new ≡ old ++ key ∷ []) × IsVacantAt t q
+
+-- another key has a place that this session found unpinned, and whose version is 0
+abbrev pub OneOther : State Slot View → State Slot View → View → List KeyName → List KeyName → Type 0
+OneOther s t v old new =
+    (q : ℕ) × (key : KeyName) × (0 < q) × (v.idle ≡ Some q) × (get_or s.words (version_word q) 0 ≡ 0) × (new ≡ set old (q - 1) key) × IsVacantAt t q
+
+-- the same keys have the same places, or one more has one, or another one
+abbrev pub KeysKept : State Slot View → State Slot View → View → List KeyName → List KeyName → Type 0
+KeysKept s t v old new = (old ≡ new) ⊎ (OneMore t old new ⊎ OneOther s t v old new)
 
 abbrev pub first_slot : Slot → List (ℕ × Slot) → Slot
 first_slot else [] = else
@@ -15,11 +29,8 @@ first_slot else (x ∷ xs) = x.1
 
 module _ (s t : State Slot View) (r : Rule s) (r′ : Rule t) (id : ℕ) (m m′ : Mine) (st : Step Slot) (left : ℕ) (act : Act Slot) (seat : get_elem? s.views id ≡ some m.0)
     (moves : t ≡ stepped s st.word left id m.1 m′.0 act) (size : st.slots ≡ length s.homes) (valid : Valid s.homes m.1 act) (carried : m′.1 ≡ carried_after m.1 act) where
-  -- the same keys have the same places, or one more has the next one
   abbrev pub KeysStay : Type 0
-  KeysStay =
-      (r.keys ≡ r′.keys)
-      ⊎ ((q : ℕ) × (key : KeyName) × (q ≡ length r.keys + 1) × (r′.keys ≡ r.keys ++ key ∷ []) × IsVacantAt t q)
+  KeysStay = KeysKept s t m.0 r.keys r′.keys
 
   abbrev found : ℕ
   found = get_or s.words st.word 0
@@ -93,7 +104,7 @@ module _ (s t : State Slot View) (r : Rule s) (r′ : Rule t) (id : ℕ) (m m′
       again at =
           ap (λ (n : ℕ). get_or (set s.words n found) (latch_word 0) 0) at
           ∙ get_or-set_same s.words (latch_word 0) found 0 (let wide = r.wide in omega arith) ∙ ap (λ (n : ℕ). get_or s.words n 0) at
-  keys_stay (Makes.PutsDirectory more at play) whole =
+  keys_stay (Makes.PutsDirectory at play) whole =
       let k = whole.0.0 in
       let word : get_or t.words (latch_word 0) 0 ≡ 0 =
       ap (λ (x : State Slot View). get_or x.words (latch_word 0) 0) moves ∙ (λ i. get_or (set s.words (at i) (whole.1.0 i)) (latch_word 0) 0)
@@ -132,13 +143,34 @@ module _ (s t : State Slot View) (r : Rule s) (r′ : Rule t) (id : ℕ) (m m′
       let home : get_elem? t.homes q ≡ some (some (slot.Place (empty_book key))) =
       ap (λ (x : State Slot View). get_elem? x.homes q) moves ∙ ap (λ (a : Act Slot). get_elem? (homes_after s.homes m.1 a) q) whole.1.1
       ∙ ap (λ (c : List (ℕ × Slot)). get_elem? (put_back s.homes c) q) may.holds.carried ∙ set_here s.homes q (some (slot.Place (empty_book key))) whole.0.1 in
-      inr (
+      inr (inl (
         q,
         key,
         may.next ∙ ap (λ (ks : List KeyName). length ks + 1) same,
         sym (listed_then (listing key k) directory) ∙ ap (λ (ks : List KeyName). ks ++ key ∷ []) same,
         λ book is. ap (λ (b : BookView). b.waiting) (one_book book (empty_book key) (sym (is.free word) ∙ home)),
-      )
+      ))
+  keys_stay (Makes.PutsOtherKey q key k h may at play) whole =
+      let same : k.keys ≡ r.keys = listed k may.key_is.recorded in
+      let made = play.1 q (empty_book key) at may.holds.carried in
+      let directory : m′.0.directory ≡ Some (exchanging q key k) = ap (λ (x : Mine). x.0.directory) made ∙ rw may.key_is.recorded refl in
+      let word : get_or t.words (latch_word q) 0 ≡ 0 =
+      ap (λ (x : State Slot View). get_or x.words (latch_word q) 0) moves ∙ (λ i. get_or (set s.words (at i) (whole.1.0 i)) (latch_word q) 0)
+      ∙ get_or-set_same s.words (latch_word q) 0 0 (let wide = r.wide in let last = whole.0.1 in omega arith) in
+      let home : get_elem? t.homes q ≡ some (some (slot.Place (empty_book key))) =
+      ap (λ (x : State Slot View). get_elem? x.homes q) moves ∙ ap (λ (a : Act Slot). get_elem? (homes_after s.homes m.1 a) q) whole.1.1
+      ∙ ap (λ (c : List (ℕ × Slot)). get_elem? (put_back s.homes c) q) may.holds.carried ∙ set_here s.homes q (some (slot.Place (empty_book key))) whole.0.1 in
+      let ok = r.places q whole.0.0 whole.0.1 in
+      let held = ok.held id (holder_at q m.0) (at_map (holder_at q) s.views id m.0 seat) h may.holds.recorded in
+      inr (inr (
+        q,
+        key,
+        whole.0.0,
+        may.idle,
+        ok.book_ok.version_is ∙ ap (λ (b : BookView). b.standing.version) (sym held.book_is) ∙ may.unversioned,
+        sym (listed_then (exchanging q key k) directory) ∙ ap (λ (ks : List KeyName). set ks (q - 1) key) same,
+        λ book is. ap (λ (b : BookView). b.waiting) (one_book book (empty_book key) (sym (is.free word) ∙ home)),
+      ))
   keys_stay (Makes.RaisesFlags q slow obtrusive at mask play) whole = (let first = whole.0.0 in kept _ (play.1 q slow obtrusive at mask) refl (λ e. omega arith) whole.2)
   keys_stay (Makes.LowersFlags q deeds slow obtrusive may at mask play) whole =
       (let first = whole.0.0 in kept _ (play.1 q slow obtrusive (all_booked m.0.number deeds may.0.book) at mask may.1.holds.carried) refl (λ e. omega arith) whole.1)
@@ -169,3 +201,6 @@ module _ (s t : State Slot View) (r : Rule s) (r′ : Rule t) (id : ℕ) (m m′
   ]
   keys_stay (Makes.ReleasesFast q number at play) whole = (let first = whole.0.0 in kept _ (play.1 q at) refl (λ e. omega arith) whole.2.2.1)
   keys_stay (Makes.Materialises q weight h may at play) whole = (let first = whole.0.0 in kept _ (play.1 q at) refl (λ e. omega arith) whole.1.1)
+  keys_stay (Makes.Pins q key k may at play) whole = (let first = whole.0.0 in kept _ (play.1 q at) refl (λ e. omega arith) whole.1.1)
+  keys_stay (Makes.Unpins q may at play) whole = (let first = whole.0.0 in kept _ (play.1 q at) refl (λ e. omega arith) whole.1.1)
+  keys_stay (Makes.ReadsPins q at play) whole = (let first = whole.0.0 in kept _ (play.1 q at) refl (λ e. omega arith) whole.1.1)

@@ -31,6 +31,7 @@ pub mod Staying
 pub mod RestSteps
 pub mod RestKinds
 pub mod RestKeys
+pub mod Renaming
 pub mod RestSplits
 pub mod NotesKept
 pub mod StepEvents
@@ -49,6 +50,7 @@ pub mod Puttings
 pub mod Causes
 pub mod Debts
 pub mod KeysStay
+pub mod PinnedKeys
 pub mod Askers
 pub mod Sights
 pub mod Looking

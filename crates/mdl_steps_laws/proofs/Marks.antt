@@ -28,7 +28,7 @@ module _ (s t : State Slot View) (m : Mine) where
     | inl free ↦ (let took = (play.1 at).0 free in same m′ _ took.2 refl refl)
     | inr taken ↦ same m′ _ ((play.1 at).1 taken) refl refl
   ]
-  mark_kept st found m′ (Makes.PutsDirectory more at play) = same m′ _ (play.1 at) refl refl
+  mark_kept st found m′ (Makes.PutsDirectory at play) = same m′ _ (play.1 at) refl refl
   mark_kept st found m′ (Makes.TakesLatch q at play) = elim (nat_told found 0) [
     | inl free ↦ (let took = (play.1 q at).0 free in same m′ _ took.2 refl refl)
     | inr taken ↦ same m′ _ ((play.1 q at).1 taken) refl refl
@@ -38,6 +38,7 @@ module _ (s t : State Slot View) (m : Mine) where
   mark_kept st found m′ (Makes.PutsReading q may at play) = same m′ _ (play.1 q may.0.book at may.1.holds.carried) refl refl
   mark_kept st found m′ (Makes.PutsSearched q may sees at play) = inr (sees, play.0, λ brought. brought)
   mark_kept st found m′ (Makes.PutsKey q key k h may at play) = same m′ _ (play.1 q (empty_book key) at may.holds.carried) refl refl
+  mark_kept st found m′ (Makes.PutsOtherKey q key k h may at play) = same m′ _ (play.1 q (empty_book key) at may.holds.carried) refl refl
   mark_kept st found m′ (Makes.RaisesFlags q slow obtrusive at mask play) = same m′ _ (play.1 q slow obtrusive at mask) refl refl
   mark_kept st found m′ (Makes.LowersFlags q deeds slow obtrusive may at mask play) = same m′ _ (play.1 q slow obtrusive (all_booked m.0.number deeds may.0.book) at mask may.1.holds.carried) refl refl
   mark_kept st found m′ (Makes.ReadsWord q at play) = same m′ _ (play.1 q at) refl refl
@@ -63,6 +64,9 @@ module _ (s t : State Slot View) (m : Mine) where
   ]
   mark_kept st found m′ (Makes.ReleasesFast q n at play) = same m′ _ (play.1 q at) refl refl
   mark_kept st found m′ (Makes.Materialises q weight h may at play) = same m′ _ (play.1 q at) refl refl
+  mark_kept st found m′ (Makes.Pins q key k may at play) = same m′ _ (play.1 q at) refl refl
+  mark_kept st found m′ (Makes.Unpins q may at play) = same m′ _ (play.1 q at) refl refl
+  mark_kept st found m′ (Makes.ReadsPins q at play) = same m′ _ (play.1 q at) refl refl
 
 -- ---- the event
 
@@ -111,13 +115,14 @@ module _ (s t : State Slot View) (w : View) where
 pub marked : (s t : State Slot View) (st : Step Slot) (m : Mine) (was : ℕ) (m′ : Mine) (made : Makes st m was m′) → BringsOrRests s t made → IsMarked s t m′.0
 marked s t st m was m′ (Makes.DrawsNumber _) brought = nothing s t m′.0 brought
 marked s t st m was m′ (Makes.TakesDirectory _ _) brought = nothing s t m′.0 brought
-marked s t st m was m′ (Makes.PutsDirectory _ _ _) brought = nothing s t m′.0 brought
+marked s t st m was m′ (Makes.PutsDirectory _ _) brought = nothing s t m′.0 brought
 marked s t st m was m′ (Makes.TakesLatch _ _ _) brought = nothing s t m′.0 brought
 marked s t st m was m′ (Makes.PutsLatch q deeds _ _ _) brought = by_deeds_at s t m′.0 m.0.number q deeds brought
 marked s t st m was m′ (Makes.PutsServed _ _ _ _ _) brought = nothing s t m′.0 brought
 marked s t st m was m′ (Makes.PutsReading _ _ _ _) brought = nothing s t m′.0 brought
 marked s t st m was m′ (Makes.PutsSearched _ _ _ _ _) brought = nothing s t m′.0 brought
 marked s t st m was m′ (Makes.PutsKey _ _ _ _ _ _ _) brought = nothing s t m′.0 brought
+marked s t st m was m′ (Makes.PutsOtherKey _ _ _ _ _ _ _) brought = nothing s t m′.0 brought
 marked s t st m was m′ (Makes.RaisesFlags _ _ _ _ _ _) brought = nothing s t m′.0 brought
 marked s t st m was m′ (Makes.LowersFlags q deeds _ _ _ _ _ _) brought = by_deeds_at s t m′.0 m.0.number q deeds brought
 marked s t st m was m′ (Makes.ReadsWord _ _ _) brought = nothing s t m′.0 brought
@@ -144,3 +149,6 @@ marked s t st m was m′ (Makes.GrantsFast _ mode _ _ _) brought = met_or_not s 
     happens s t m′.0 (Grant (of_lock granted.0 (record { session = m.0.number; number = m.0.next; mode = mode }))) (nobody s t m′.0) granted.2)
 marked s t st m was m′ (Makes.ReleasesFast _ _ _ _) brought = happens s t m′.0 (Release (of_lock brought.0 brought.2.0)) (nobody s t m′.0) brought.2.2
 marked s t st m was m′ (Makes.Materialises _ _ _ _ _ _) brought = nothing s t m′.0 brought
+marked s t st m was m′ (Makes.Pins _ _ _ _ _ _) brought = nothing s t m′.0 brought
+marked s t st m was m′ (Makes.Unpins _ _ _ _) brought = nothing s t m′.0 brought
+marked s t st m was m′ (Makes.ReadsPins _ _ _) brought = nothing s t m′.0 brought

@@ -1,10 +1,10 @@
 -- Nobody is forgotten where nobody owes a reschedule, in each table that is reached.
-use Rattle.std.proofs.Common.{◌≡◌, ◌≢◌, ◌⊎◌, ℕ, suc, ◌+◌, ◌==◌, inl, inr, List, [], ◌∷◌, ◌++◌, set, map, length, Some, None, refl, sym, ap, ◌∙◌, subst, arith, Contains}
+use Rattle.std.proofs.Common.{◌≡◌, ◌≢◌, ◌⊎◌, ℕ, suc, ◌+◌, ◌==◌, inl, inr, List, [], ◌∷◌, ◌++◌, set, map, length, Some, None, refl, sym, ap, ◌∙◌, subst, arith, Contains, ◌-◌}
 use Rattle.mdl_steps_laws.proofs.FirstLemmas.{AreKeysOf, Contains-map, Contains-none, Definition, IsBookAt, IsKeyAt, IsPaid, IsTold, IsUnfreed, IsWholeChange, KeyName, Lock, NobodyIsForgotten, NobodyIsForgottenAtRest, NoneForgottenAt, Reached, Rule, Slot, State, System, TableChange, Ticket, View, Waiter, at_inside, at_longer, at_map, at_set, at_snoc, find_key, first_after, get_elem?, held_at, holder_at, last_place, list_any, nat_told, nobody_waits, ruled_keys, same_keys, set_else, set_here, some, some-injective, split_off}
 use Rattle.mdl_steps_laws.proofs.EachStep.{each_step_is_one_event}
 use Rattle.mdl_steps_laws.proofs.Forgotten.{go}
 use Rattle.mdl_steps_laws.proofs.FreeingNothing.{nothing}
-use Rattle.mdl_steps_laws.proofs.KeysStay.{IsVacantAt, keys_stay}
+use Rattle.mdl_steps_laws.proofs.KeysStay.{IsVacantAt, KeysKept, keys_stay}
 use Rattle.mdl_steps_laws.proofs.RestKeys.{at_end}
 use Rattle.mdl_steps_laws.proofs.Wells.{a_system, rule_of}
 
@@ -25,12 +25,17 @@ module _ (t : State Slot View) (r′ : Rule t) (place : ℕ) (key : KeyName) (is
     at_key = subst (λ (ks : List KeyName). get_elem? ks is_key.2.0 ≡ some key) (same_keys t r′ is_key.0 is_key.1) is_key.2.2
 
     -- the key had the place before, or nobody waits there
-    key_before : (r.keys ≡ r′.keys) ⊎ ((q : ℕ) × (new : KeyName) × (q ≡ length r.keys + 1) × (r′.keys ≡ r.keys ++ new ∷ []) × IsVacantAt t q) → IsKeyAt s place key ⊎ IsVacantAt t place
-    key_before (inl same) = inl (r.keys, ruled_keys s r, (is_key.2.0, is_key.2.1, ap (λ (ks : List KeyName). get_elem? ks is_key.2.0) same ∙ at_key))
-    key_before (inr named) =
+    key_before : (v : View) → KeysKept s t v r.keys r′.keys → IsKeyAt s place key ⊎ IsVacantAt t place
+    key_before v (inl same) = inl (r.keys, ruled_keys s r, (is_key.2.0, is_key.2.1, ap (λ (ks : List KeyName). get_elem? ks is_key.2.0) same ∙ at_key))
+    key_before v (inr (inl named)) =
         elim (at_end r.keys named.1 key is_key.2.0 (ap (λ (ks : List KeyName). get_elem? ks is_key.2.0) (sym named.3) ∙ at_key)) [
           | inl old ↦ inl (r.keys, ruled_keys s r, (is_key.2.0, is_key.2.1, old))
           | inr new ↦ inr (subst (IsVacantAt t) (let next = named.2 in let here = is_key.2.1 in let last = new.0 in omega arith) named.4)
+        ]
+    key_before v (inr (inr given)) =
+        elim (at_set r.keys (given.0 - 1) is_key.2.0 given.1 key (ap (λ (ks : List KeyName). get_elem? ks is_key.2.0) (sym given.5) ∙ at_key)) [
+          | inl new ↦ inr (subst (IsVacantAt t) (let first = given.2 in let here = is_key.2.1 in let at = new.0 in omega arith) given.6)
+          | inr old ↦ inl (r.keys, ruled_keys s r, (is_key.2.0, is_key.2.1, old.1))
         ]
 
 -- a seat is split off
@@ -47,7 +52,7 @@ module _ (s : State Slot View) (r : Rule s) (v first more : View) (seat : get_el
   first_view : (j : ℕ) (w : View) → j ≡ 0 → get_elem? s.views j ≡ some w → w ≡ v
   first_view j w e at = some-injective w v (sym at ∙ ap (get_elem? s.views) e ∙ seat)
 
-  keys_split : AreKeysOf split r.keys
+  pub keys_split : AreKeysOf split r.keys
   keys_split = record {
     free = r.directory_agrees.free;
     taken = λ j w there k has. elim (at_snoc (set s.views 0 first) more w j there) [
@@ -75,7 +80,7 @@ module _ (s t : State Slot View) (before : Reached s) (r′ : Rule t) (cared : I
   by_turn : (turn : TableChange s t) → IsWholeChange turn → IsCared t
   by_turn (TableChange.Steps id m m′ st left act seat made moves) whole place key is_key paid unfreed b told =
       let r = rule_of s before in
-      elim (key_before t r′ place key is_key b told s (rule_of s before)
+      elim (key_before t r′ place key is_key b told s (rule_of s before) m.0
       (keys_stay s t (rule_of s before) r′ id m m′ st left act seat moves whole.0 whole.1 whole.2 made whole.3)) [
         | inr empty ↦ vacant t r′ place key is_key b told empty
         | inl was ↦
@@ -87,7 +92,7 @@ module _ (s t : State Slot View) (before : Reached s) (r′ : Rule t) (cared : I
   by_turn (TableChange.Splits v first more seat fast slow reads moves) whole place key is_key paid unfreed b told =
       let r = rule_of s before in
       let keys = same_keys t r′ r.keys (subst (λ (x : State Slot View). AreKeysOf x r.keys) (sym moves) (keys_split s r v first more seat whole.0 whole.1)) in
-      elim (key_before t r′ place key is_key b told s r (inl keys)) [
+      elim (key_before t r′ place key is_key b told s r v (inl keys)) [
         | inr empty ↦ vacant t r′ place key is_key b told empty
         | inl was ↦
             nothing s t (each_step_is_one_event s t r r′ (TableChange.Splits v first more seat fast slow reads moves) whole) (a_system s r).0 b (a_system s r).1 told key

@@ -41,13 +41,14 @@ module _ (s t : State Slot View) where
   is_a_step : (st : Step Slot) (m : Mine) (was : ℕ) (m′ : Mine) (made : Makes st m was m′) → BringsOrRests s t made → IsAStep
   is_a_step st m was m′ (Makes.DrawsNumber _) brought = nothing brought
   is_a_step st m was m′ (Makes.TakesDirectory _ _) brought = nothing brought
-  is_a_step st m was m′ (Makes.PutsDirectory _ _ _) brought = nothing brought
+  is_a_step st m was m′ (Makes.PutsDirectory _ _) brought = nothing brought
   is_a_step st m was m′ (Makes.TakesLatch _ _ _) brought = nothing brought
   is_a_step st m was m′ (Makes.PutsLatch q deeds _ _ _) brought = by_deeds_at m.0.number q deeds brought
   is_a_step st m was m′ (Makes.PutsServed _ _ _ _ _) brought = nothing brought
   is_a_step st m was m′ (Makes.PutsReading _ _ _ _) brought = nothing brought
   is_a_step st m was m′ (Makes.PutsSearched _ _ _ _ _) brought = nothing brought
   is_a_step st m was m′ (Makes.PutsKey _ _ _ _ _ _ _) brought = nothing brought
+  is_a_step st m was m′ (Makes.PutsOtherKey _ _ _ _ _ _ _) brought = nothing brought
   is_a_step st m was m′ (Makes.RaisesFlags _ _ _ _ _ _) brought = nothing brought
   is_a_step st m was m′ (Makes.LowersFlags q deeds _ _ _ _ _ _) brought = by_deeds_at m.0.number q deeds brought
   is_a_step st m was m′ (Makes.ReadsWord _ _ _) brought = nothing brought
@@ -73,6 +74,9 @@ module _ (s t : State Slot View) where
       happens (Grant (of_lock granted.0 (record { session = m.0.number; number = m.0.next; mode = mode }))) granted.2)
   is_a_step st m was m′ (Makes.ReleasesFast _ _ _ _) brought = happens (Release (of_lock brought.0 brought.2.0)) brought.2.2
   is_a_step st m was m′ (Makes.Materialises _ _ _ _ _ _) brought = nothing brought
+  is_a_step st m was m′ (Makes.Pins _ _ _ _ _ _) brought = nothing brought
+  is_a_step st m was m′ (Makes.Unpins _ _ _ _) brought = nothing brought
+  is_a_step st m was m′ (Makes.ReadsPins _ _ _) brought = nothing brought
 
 pub each_step_happens_or_rests : EachStepHappensOrRests
 each_step_happens_or_rests s t r r′ (TableChange.Steps id m m′ st left act seat made moves) whole =

@@ -1,11 +1,11 @@
 -- Steps on the directory's latch, the drawing of numbers, and the step by which a key gets a place: nothing is done in the system.
 use Rattle.std.proofs.Common.{◌≡◌, ◌≢◌, ◌⊎◌, ℕ, zero, suc, ◌+◌, ◌-◌, ◌*◌, ◌<◌, ◌≤◌, inl, inr, List, [], ◌∷◌, ◌++◌, length, set, get_or, Some, None, refl, sym, ap, ◌∙◌, subst, arith, length-set, get_or-set_other, get_or-set_same, slice_get}
 use Rattle.mdl_steps.specs.declared.slot.Slot.TheVariants as slot
-use Rattle.mdl_steps_laws.proofs.FirstLemmas.{AreKeysOf, AreLocksOf, ConsultingRests, DrawingRests, InformingRests, IsBookAt, KeyName, Keys, Leaves, Lock, Maybe, Mine, NamingRests, Slot, State, View, after_giving, after_step, after_taking, alone, alone_desk, at_inside, at_longer, at_map, at_set, book_else, consulted, desk_of, empty_book, empty_lock, enrol_word, fast_at, fast_same, get_elem?, held_at, held_at-dropped, held_at-undropped, holder_at, informed, key_at, latch_word, listing, named, none, none_after, not_there, one_directory, same_keys, set_else, set_here, some, some-injective, some-ne-none}
+use Rattle.mdl_steps_laws.proofs.FirstLemmas.{AreKeysOf, AreLocksOf, ConsultingRests, DrawingRests, DismissingRests, IsBookAt, KeyName, Keys, Leaves, Lock, Maybe, Mine, NamingRests, Slot, State, View, after_giving, after_step, after_taking, alone, alone_desk, at_inside, at_longer, at_map, at_set, book_else, consulted, desk_of, empty_book, empty_lock, enrol_word, fast_at, fast_same, get_elem?, held_at, held_at-dropped, held_at-undropped, holder_at, dismissed, key_at, latch_word, listing, named, none, none_after, not_there, one_directory, same_keys, set_else, set_here, some, some-injective, some-ne-none}
 use Rattle.mdl_steps_laws.proofs.RestKinds.{leaves_all, unmoved}
 use Rattle.mdl_steps_laws.proofs.RestSteps.{elsewhere_rests, same_system, waits_same}
 
-one_keys : (j k : Keys) → Some j ≡ Some k → j ≡ k
+pub one_keys : (j k : Keys) → Some j ≡ Some k → j ≡ k
 one_keys j k e = cc
 
 -- ---- the directory
@@ -29,11 +29,11 @@ consulting_rests s r id me seat some_number free k home r′ =
           (set s.homes 0 none) (length-set s.homes 0 none) (λ q else. set_else s.homes 0 q none else) (omega arith) (λ q some last e. omega arith) keys r′,
     )
 
-pub informing_rests : InformingRests
-informing_rests s r id me seat k recorded more r′ =
-    let w : View = (informed more me).0 in
+pub dismissing_rests : DismissingRests
+dismissing_rests s r id me seat k recorded r′ =
+    let w : View = (dismissed me).0 in
     let home : Maybe Slot = some (slot.Directory k) in
-    let keys : (ks : List KeyName) → AreKeysOf s ks → AreKeysOf (after_giving s 0 (slot.Directory k) id (informed more me)) ks = λ ks are. record {
+    let keys : (ks : List KeyName) → AreKeysOf s ks → AreKeysOf (after_giving s 0 (slot.Directory k) id (dismissed me)) ks = λ ks are. record {
       free = λ e.
           set_here s.homes 0 home (let fit = r.fit in omega arith)
           ∙ ap (λ (x : List KeyName). some (some (slot.Directory (record { keys = x })))) (are.taken id me.0 seat k recorded);

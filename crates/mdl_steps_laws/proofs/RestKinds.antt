@@ -1,7 +1,7 @@
 -- The kinds of step by which nothing is done in the system.
 use Rattle.std.proofs.Common.{◌≡◌, ◌≢◌, ℕ, ◌+◌, ◌*◌, ◌<◌, ◌≤◌, ◌==◌, cond, inl, inr, List, [], map, set, get_or, Option, Some, None, refl, sym, ap, ◌∙◌, subst, arith, length-set, get_or-set_other, get_or-set_same}
 use Rattle.mdl_steps.specs.declared.slot.Slot.TheVariants as slot
-use Rattle.mdl_steps_laws.proofs.FirstLemmas.{AreKeysOf, BookView, Definition, FindingVersionRests, HasPlace, IsBookAt, IsFree, IsRest, Kept, KeyName, LatchRecord, Leaves, LoweringRests, Maybe, Mine, MissingDirectoryRests, MissingRests, PuttingReadingRests, PuttingRests, PuttingSearchedRests, PuttingServedRests, RaisingRests, ReadingRests, ReadingVersionRests, Rule, Slot, State, TakingRests, VersionedDefinition, View, after_step, at_set, flags_lowered, found_version, get_elem?, held_at, held_at-changed, held_at-dropped, held_at-first, held_at-past, held_at-unchanged, held_at-undropped, kept_of, latch_word, latched, learnt_version, lock_word, lowered, none, noted_alike, noting, noting_found, option_map_or, own_at, raised, read_and_put, searched, served, set_else, set_found, set_here, some, ticket_by, unlatched, version_word}
+use Rattle.mdl_steps_laws.proofs.FirstLemmas.{AreKeysOf, BookView, Definition, FindingVersionRests, HasPlace, IsBookAt, IsFree, IsRest, Kept, KeyName, LatchRecord, Leaves, LoweringRests, Maybe, Mine, MissingDirectoryRests, MissingRests, PinningRests, PuttingReadingRests, PuttingRests, PuttingSearchedRests, PuttingServedRests, RaisingRests, ReadingPinsRests, ReadingRests, ReadingVersionRests, Rule, Slot, State, TakingRests, UnpinningRests, VersionedDefinition, View, after_step, at_set, flags_lowered, found_version, get_elem?, held_at, held_at-changed, held_at-dropped, held_at-first, held_at-past, held_at-unchanged, held_at-undropped, kept_of, latch_word, latched, learnt_version, lock_word, lowered, none, noted_alike, noting, noting_found, option_map_or, own_at, pins_word, raised, read_and_put, searched, served, set_else, set_found, set_here, some, ticket_by, unlatched, version_word}
 use Rattle.mdl_steps_laws.proofs.RestSteps.{elsewhere_rests, one_book, place_rests}
 
 one_record : (g h : LatchRecord) → Some g ≡ Some h → g ≡ h
@@ -189,6 +189,15 @@ module _ (s : State Slot View) (r : Rule s) (id : ℕ) (me me′ : Mine) (seat :
         (omega arith) (λ q some last e. omega arith) met_keys r′,
   )
 
+  -- on the word of a place's pins
+  pins_rest : (place : ℕ) → HasPlace s place → (left : ℕ) → IsRest s (after_step s (pins_word place) left id me′)
+  pins_rest place has left r′ = (
+    r′,
+    place_rests s r place id me.0 me′.0 seat (leaves_all place) asks (pins_word place) left (omega arith, omega arith) s.homes refl (unmoved s place) has directory
+        (kept_here s place has id me.0 me′.0 seat (pins_word place) left (get_or-set_other s.words (pins_word place) (latch_word place) left 0 (λ e. omega arith))
+        (λ g e. (g, sym (ap (held_at place) latches) ∙ e, refl))) r′,
+  )
+
 pub missing_rests : MissingRests
 missing_rests s r place has id me me′ seat st found at is taken play =
     let e = (play.1 place at).1 taken in
@@ -264,3 +273,23 @@ finding_version_rests s r place has id me me′ seat kept st found at is play =
     subst (λ (n : ℕ). IsRest s (after_step s (version_word place) n id me′)) (sym is)
     (subst (λ (x : Mine). IsRest s (after_step s (version_word place) (get_or s.words (version_word place) 0) id x)) (sym e)
     (found_version_rests s r place has id me seat kept found))
+
+-- ---- its pins
+
+pub pinning_rests : PinningRests
+pinning_rests s r place has id me me′ seat st found left at play =
+    let e = play.1 place at in
+    pins_rest s r id me me′ seat (ap (λ (x : Mine). x.0.number) e) (ap (λ (x : Mine). x.0.fast) e) (ap (λ (x : Mine). x.0.asks) e) (ap (λ (x : Mine). x.0.directory) e)
+    (ap (λ (x : Mine). x.0.latches) e) place has left
+
+pub unpinning_rests : UnpinningRests
+unpinning_rests s r place has id me me′ seat st found left at play =
+    let e = play.1 place at in
+    pins_rest s r id me me′ seat (ap (λ (x : Mine). x.0.number) e) (ap (λ (x : Mine). x.0.fast) e) (ap (λ (x : Mine). x.0.asks) e) (ap (λ (x : Mine). x.0.directory) e)
+    (ap (λ (x : Mine). x.0.latches) e) place has left
+
+pub reading_pins_rests : ReadingPinsRests
+reading_pins_rests s r place has id me me′ seat st found left at play =
+    let e = play.1 place at in
+    pins_rest s r id me me′ seat (ap (λ (x : Mine). x.0.number) e) (ap (λ (x : Mine). x.0.fast) e) (ap (λ (x : Mine). x.0.asks) e) (ap (λ (x : Mine). x.0.directory) e)
+    (ap (λ (x : Mine). x.0.latches) e) place has left

@@ -56,7 +56,7 @@ module _ (m : Mine) (st : Step Slot) where
     | inl free ↦ (let took = (play.1 at).0 free in plain found m′ _ took.2 refl (omega arith) refl refl _ refl (λ met. absurd (elim met [ inl e ↦ cc | inr e ↦ cc ])))
     | inr taken ↦ plain found m′ _ ((play.1 at).1 taken) refl (omega arith) refl refl _ refl (λ met. absurd (elim met [ inl e ↦ cc | inr e ↦ cc ]))
   ]
-  shifts found m′ (Makes.PutsDirectory more at play) = plain found m′ _ (play.1 at) refl (omega arith) refl refl _ refl (λ met. absurd (elim met [ inl e ↦ cc | inr e ↦ cc ]))
+  shifts found m′ (Makes.PutsDirectory at play) = plain found m′ _ (play.1 at) refl (omega arith) refl refl _ refl (λ met. absurd (elim met [ inl e ↦ cc | inr e ↦ cc ]))
   shifts found m′ (Makes.TakesLatch q at play) = elim (nat_told found 0) [
     | inl free ↦ (let took = (play.1 q at).0 free in plain found m′ _ took.2 refl (omega arith) refl refl _ refl (λ met. absurd (elim met [ inl e ↦ cc | inr e ↦ cc ])))
     | inr taken ↦ plain found m′ _ ((play.1 q at).1 taken) refl (omega arith) refl refl _ refl (λ met. absurd (elim met [ inl e ↦ cc | inr e ↦ cc ]))
@@ -66,6 +66,7 @@ module _ (m : Mine) (st : Step Slot) where
   shifts found m′ (Makes.PutsReading q may at play) = plain found m′ _ (play.1 q may.0.book at may.1.holds.carried) refl (omega arith) refl refl _ refl (λ met. absurd (elim met [ inl e ↦ cc | inr e ↦ cc ]))
   shifts found m′ (Makes.PutsSearched q may sees at play) = plain found m′ _ (play.1 q at) refl (omega arith) refl refl _ refl (λ met. absurd (elim met [ inl e ↦ cc | inr e ↦ cc ]))
   shifts found m′ (Makes.PutsKey q key k h may at play) = plain found m′ _ (play.1 q (empty_book key) at may.holds.carried) refl (omega arith) refl refl _ refl (λ met. absurd (elim met [ inl e ↦ cc | inr e ↦ cc ]))
+  shifts found m′ (Makes.PutsOtherKey q key k h may at play) = plain found m′ _ (play.1 q (empty_book key) at may.holds.carried) refl (omega arith) refl refl _ refl (λ met. absurd (elim met [ inl e ↦ cc | inr e ↦ cc ]))
   shifts found m′ (Makes.RaisesFlags q slow obtrusive at mask play) = plain found m′ _ (play.1 q slow obtrusive at mask) refl (omega arith) refl refl _ refl (λ met. absurd (elim met [ inl e ↦ cc | inr e ↦ cc ]))
   shifts found m′ (Makes.LowersFlags q deeds slow obtrusive may at mask play) =
       plain found m′ _ (play.1 q slow obtrusive (all_booked m.0.number deeds may.0.book) at mask may.1.holds.carried) refl (deeds_next deeds m.0.next) refl refl _ refl (λ met. absurd (elim met [ inl e ↦ cc | inr e ↦ cc ]))
@@ -117,6 +118,9 @@ module _ (m : Mine) (st : Step Slot) where
   ]
   shifts found m′ (Makes.ReleasesFast q n at play) = plain found m′ _ (play.1 q at) refl (omega arith) refl refl _ refl (λ met. absurd (elim met [ inl e ↦ cc | inr e ↦ cc ]))
   shifts found m′ (Makes.Materialises q weight h may at play) = plain found m′ _ (play.1 q at) refl (omega arith) refl refl _ refl (λ met. absurd (elim met [ inl e ↦ cc | inr e ↦ cc ]))
+  shifts found m′ (Makes.Pins q key k may at play) = plain found m′ _ (play.1 q at) refl (omega arith) refl refl _ refl (λ met. absurd (elim met [ inl e ↦ cc | inr e ↦ cc ]))
+  shifts found m′ (Makes.Unpins q may at play) = plain found m′ _ (play.1 q at) refl (omega arith) refl refl _ refl (λ met. absurd (elim met [ inl e ↦ cc | inr e ↦ cc ]))
+  shifts found m′ (Makes.ReadsPins q at play) = plain found m′ _ (play.1 q at) refl (omega arith) refl refl _ refl (λ met. absurd (elim met [ inl e ↦ cc | inr e ↦ cc ]))
 
 -- ---- the words of waits
 
@@ -125,13 +129,14 @@ pub left_quiet : (s : State Slot View) (left : ℕ) (act : Act Slot) (st : Step 
     → st.slots ≡ length s.homes → (n : ℕ) → st.word ≡ wait_word (length s.homes) n → (found % 8 ≡ 1 → ⊥) → (left % 8 ≡ 1 → ⊥) ⊎ ((m.0.asks ≡ None) × (n ≡ m.0.number))
 left_quiet s left act st m found m′ (Makes.DrawsNumber play) whole size n at quiet = (let is = whole.0 in absurd (omega arith))
 left_quiet s left act st m found m′ (Makes.TakesDirectory here play) whole size n at quiet = absurd (omega arith)
-left_quiet s left act st m found m′ (Makes.PutsDirectory more here play) whole size n at quiet = absurd (omega arith)
+left_quiet s left act st m found m′ (Makes.PutsDirectory here play) whole size n at quiet = absurd (omega arith)
 left_quiet s left act st m found m′ (Makes.TakesLatch q here play) whole size n at quiet = (let inside = whole.0.1 in absurd (omega arith))
 left_quiet s left act st m found m′ (Makes.PutsLatch q deeds may here play) whole size n at quiet = (let inside = whole.0.1 in absurd (omega arith))
 left_quiet s left act st m found m′ (Makes.PutsServed q table may here play) whole size n at quiet = (let inside = whole.0.1 in absurd (omega arith))
 left_quiet s left act st m found m′ (Makes.PutsReading q may here play) whole size n at quiet = (let inside = whole.0.1 in absurd (omega arith))
 left_quiet s left act st m found m′ (Makes.PutsSearched q may sees here play) whole size n at quiet = (let inside = whole.0.1 in absurd (omega arith))
 left_quiet s left act st m found m′ (Makes.PutsKey q key k h may here play) whole size n at quiet = (let inside = whole.0.1 in absurd (omega arith))
+left_quiet s left act st m found m′ (Makes.PutsOtherKey q key k h may here play) whole size n at quiet = (let inside = whole.0.1 in absurd (omega arith))
 left_quiet s left act st m found m′ (Makes.RaisesFlags q slow obtrusive here mask play) whole size n at quiet = (let inside = whole.0.1 in absurd (omega arith))
 left_quiet s left act st m found m′ (Makes.LowersFlags q deeds slow obtrusive may here mask play) whole size n at quiet = (let inside = whole.0.1 in absurd (omega arith))
 left_quiet s left act st m found m′ (Makes.ReadsWord q here play) whole size n at quiet = (let inside = whole.0.1 in absurd (omega arith))
@@ -154,3 +159,6 @@ left_quiet s left act st m found m′ (Makes.ReadsWordUnlatched q here play) who
 left_quiet s left act st m found m′ (Makes.GrantsFast q mode under here play) whole size n at quiet = (let inside = whole.0.1 in absurd (omega arith))
 left_quiet s left act st m found m′ (Makes.ReleasesFast q number here play) whole size n at quiet = (let inside = whole.0.1 in absurd (omega arith))
 left_quiet s left act st m found m′ (Makes.Materialises q weight h may here play) whole size n at quiet = (let inside = whole.0.1 in absurd (omega arith))
+left_quiet s left act st m found m′ (Makes.Pins q key k may here play) whole size n at quiet = (let inside = whole.0.1 in absurd (omega arith))
+left_quiet s left act st m found m′ (Makes.Unpins q may here play) whole size n at quiet = (let inside = whole.0.1 in absurd (omega arith))
+left_quiet s left act st m found m′ (Makes.ReadsPins q here play) whole size n at quiet = (let inside = whole.0.1 in absurd (omega arith))

@@ -129,7 +129,7 @@ module _ (s : State Slot View) (r : Rule s) (place : ℕ) (has : HasPlace s plac
     | inl free ↦ (let took = (play.1 at).0 free in same m′ _ took.2 refl refl refl)
     | inr taken ↦ same m′ _ ((play.1 at).1 taken) refl refl refl
   ]
-  made_keeps st found was m′ (Makes.PutsDirectory more at play) spares = same m′ _ (play.1 at) refl refl refl
+  made_keeps st found was m′ (Makes.PutsDirectory at play) spares = same m′ _ (play.1 at) refl refl refl
   made_keeps st found was m′ (Makes.TakesLatch q at play) spares = elim (nat_told found 0) [
     | inl free ↦ (let took = (play.1 q at).0 free in same m′ _ took.2 refl refl refl)
     | inr taken ↦ same m′ _ ((play.1 q at).1 taken) refl refl refl
@@ -145,6 +145,7 @@ module _ (s : State Slot View) (r : Rule s) (place : ℕ) (has : HasPlace s plac
       })
   made_keeps st found was m′ (Makes.PutsSearched q may sees at play) spares = same m′ _ (play.1 q at) refl refl refl
   made_keeps st found was m′ (Makes.PutsKey q key k h may at play) spares = same m′ _ (play.1 q (empty_book key) at may.holds.carried) refl refl refl
+  made_keeps st found was m′ (Makes.PutsOtherKey q key k h may at play) spares = same m′ _ (play.1 q (empty_book key) at may.holds.carried) refl refl refl
   made_keeps st found was m′ (Makes.RaisesFlags q slow obtrusive at mask play) spares = same m′ _ (play.1 q slow obtrusive at mask) refl refl refl
   made_keeps st found was m′ (Makes.LowersFlags q deeds slow obtrusive may at mask play) spares =
       let h = may.0 in
@@ -201,3 +202,6 @@ module _ (s : State Slot View) (r : Rule s) (place : ℕ) (has : HasPlace s plac
     tickets = kept_joined place number version q m.0.slow m.0.fast;
     reads = λ x among. among;
   })
+  made_keeps st found was m′ (Makes.Pins q key k may at play) spares = same m′ _ (play.1 q at) refl refl refl
+  made_keeps st found was m′ (Makes.Unpins q may at play) spares = same m′ _ (play.1 q at) refl refl refl
+  made_keeps st found was m′ (Makes.ReadsPins q at play) spares = same m′ _ (play.1 q at) refl refl refl

@@ -23,7 +23,7 @@ find_key (k ∷ ks) key = elim (key_told k key) [
   ]
 ]
 
-slice_from_at : (keys : List KeyName) (i : ℕ) (key : KeyName) → get_elem? keys i ≡ some key → slice_get keys i ≡ Some key
+pub slice_from_at : (keys : List KeyName) (i : ℕ) (key : KeyName) → get_elem? keys i ≡ some key → slice_get keys i ≡ Some key
 slice_from_at [] i key e = absurd (some-ne-none key (sym e))
 slice_from_at (k ∷ ks) zero key e = ap (λ (x : KeyName). Some x) (some-injective k key e)
 slice_from_at (k ∷ ks) (suc i) key e = slice_from_at ks i key e

@@ -7,6 +7,7 @@ pub mod Entries
 pub mod FastLaws
 pub mod Headline
 pub mod Locks
+pub mod PinLaws
 pub mod RestLaws
 pub mod SessionSteps
 pub mod StepEvents

@@ -11,7 +11,7 @@ pub use Rattle.mdl_defs.specs.declared.definition.Definition.{Definition}
 pub use Rattle.mdl_defs.specs.declared.versioned_definition.VersionedDefinition.{VersionedDefinition}
 pub use Rattle.mdl_key.specs.Words.{IsAtLeast, KeyName, clashes, is_obtrusive, kind_of, waits_behind}
 pub use Rattle.mdl_key.specs.declared.mode.Mode.{Mode}
-pub use Rattle.mdl_steps.specs.Words.{Asking, Cell, Counted, Desk, Distinct, Each, ForgetsNobody, Gives, HasDone, HasPlace, HasRedefined, Holder, HoldsTicket, IsFresh, IsOpening, IsPaidBut, IsSession, IsStepOf, IsUnlike, IsUnused, IsWhole, IsWholeChange, KnowsPlace, Lawful, Makes, MayAct, MayBeGranted, MayCancel, MayClone, MayDo, MayDowngrade, MayGrant, MayGrantFast, MayJoin, MayLower, MayMaterialise, MayMerge, MayName, MayOpen, MayPut, MayReleaseFast, MayUpgrade, MayWriteVersion, MeetsWaiter, Mine, NotWaited, NotedCounts, Once, OnlyMeets, Part, PlaceOk, Reached, Rule, SeesNoDeadlock, StandsTogether, TableChange, Takes, TellsLists, WasSettled, all_booked, all_fast, all_next, all_owned, asked_ticket, asking, asking_at, blank, booked, but_at, but_own, cell, consulted, desk_of, done, due, ended_granted, ended_lost, enrol_word, enrols, fast_at, fast_own, finds_version, first_after, flags_lowered, found_version, frees, granted_fast, granted_state, granting_all, held_at, holder_at, idle_state, informed, interleaved, is_own, key_at, latch_word, latched, learnt_version, listing, lock_word, logged, lost_state, lowered, lowers_flags, materialised, met_wait_by, met_word_by, moved, named, next_after, no_numbers, note_at, noted_version, noting, noting_found, noting_version, numbers_for, opened, own_at, owned, part_at, pending, puts_latch, puts_reading, raised, raises_flags, read_and_put, reads_version, reads_word, redefined, released_fast, restood, searched, served, settled_granted, settled_in, settled_lost, split_off, taken_over, takes_directory, takes_latch, ticket_by, unlatched, unsettled_state, version_word, wait_in, wait_number, wait_state, wait_word, waiter_of, waits, with_admitted, with_cancelled, with_granted, with_waiting}
+pub use Rattle.mdl_steps.specs.Words.{Asking, Cell, Counted, Desk, Distinct, Each, ForgetsNobody, Gives, HasDone, HasPlace, HasRedefined, HeldOk, Holder, HoldsTicket, IsFresh, IsOpening, IsPaidBut, IsSession, IsStepOf, IsUnlike, IsUnpinned, IsUnused, IsWhole, IsWholeChange, KnowsPlace, Lawful, Makes, MayAct, MayBeGranted, MayCancel, MayClone, MayDo, MayDowngrade, MayGrant, MayGrantFast, MayJoin, MayLower, MayMaterialise, MayMerge, MayName, MayOpen, MayPut, MayReleaseFast, MayRename, MayUpgrade, MayWriteVersion, MeetsWaiter, Mine, NotWaited, NotedCounts, Once, OnlyMeets, Part, PlaceOk, Reached, Rule, SeesNoDeadlock, StandsTogether, TableChange, Takes, TellsLists, WasSettled, all_booked, all_fast, all_next, all_owned, asked_ticket, asking, asking_at, blank, booked, but_at, but_own, cell, consulted, desk_of, dismissed, done, due, ended_granted, ended_lost, enrol_word, enrols, exchanging, fast_at, fast_own, finds_version, first_after, flags_lowered, found_version, frees, granted_fast, granted_state, granting_all, held_at, holder_at, idle_state, interleaved, is_own, is_pinned, key_at, latch_word, latched, learnt_version, listing, lock_word, logged, lost_state, lowered, lowers_flags, materialised, met_pins, met_wait_by, met_word_by, moved, named, next_after, no_numbers, note_at, noted_version, noting, noting_found, noting_version, numbers_for, opened, own_at, owned, part_at, pending, pinned_at, pins_place, pins_word, puts_latch, puts_reading, raised, raises_flags, read_and_put, reads_pins, reads_version, reads_word, redefined, released_fast, renamed, restood, searched, served, settled_granted, settled_in, settled_lost, split_off, taken_over, takes_directory, takes_latch, ticket_by, unlatched, unpinned_at, unpins_place, unsettled_state, version_word, wait_in, wait_number, wait_state, wait_word, waiter_of, waits, with_admitted, with_cancelled, with_granted, with_waiting}
 pub use Rattle.mdl_steps.specs.declared.deed.Deed.TheVariants.{Alter, Gain, Lose}
 pub use Rattle.mdl_steps.specs.declared.slot.Slot.{Slot}
 pub use Rattle.mdl_steps.specs.declared.step_kind.StepKind.{StepKind}

@@ -3,7 +3,7 @@
 use Rattle.std.specs.Prelude.{◌≡◌, ◌≢◌, ℕ, ◌<◌, Bool, List, [], ◌∷◌, ◌++◌, length, slice_index, slice_set, Some}
 pub use Rattle.mdl_steps.specs.TableChanges.{first_after, split_off}
 use Rattle.mdl_steps.specs.declared.slot.Slot.TheVariants as slot
-use Rattle.mdl_steps_laws.specs.FirstWords.{HasPlace, IsFree, IsFresh, Kept, KeyName, Keys, KnownKey, LatchRecord, MayName, Mine, Rests, Rule, Slot, State, Step, View, consulted, empty_book, enrol_word, enrols, finds_version, flags_alone, flags_lowered, get_elem?, held_at, informed, latch_word, latched, lock_word, named, none, raises_flags, read_and_put, reads_version, reads_word, searched, served, some, takes_directory, takes_latch, unlatched, version_word}
+use Rattle.mdl_steps_laws.specs.FirstWords.{HasPlace, IsFree, IsFresh, Kept, KeyName, Keys, LatchRecord, MayName, MayRename, Mine, Rests, Rule, Slot, State, Step, View, consulted, empty_book, enrol_word, enrols, finds_version, flags_alone, flags_lowered, get_elem?, held_at, dismissed, latch_word, latched, lock_word, named, none, pins_place, pins_word, raises_flags, read_and_put, reads_pins, reads_version, reads_word, renamed, searched, served, some, takes_directory, takes_latch, unlatched, unpins_place, version_word}
 
 -- ---- tables after a step of a seat
 
@@ -62,11 +62,11 @@ MissingDirectoryRests =
     (st : Step Slot) (found : ℕ) → st.word ≡ latch_word 0 → found ≡ slice_index s.words (latch_word 0) → found ≢ 0 → takes_directory st me found me′ →
     IsRest s (after_step s (latch_word 0) found id me′)
 
--- giving the directory's latch back, after which the session knows more keys, leaves the system unchanged
-abbrev pub InformingRests : Type 0
-InformingRests =
+-- giving the directory's latch back leaves the system unchanged
+abbrev pub DismissingRests : Type 0
+DismissingRests =
     (s : State Slot View) → Rule s → (id : ℕ) (me : Mine) → get_elem? s.views id ≡ some me.0 → (k : Keys) → me.0.directory ≡ Some k →
-    (more : List KnownKey) → IsRest s (after_giving s 0 (slot.Directory k) id (informed more me))
+    IsRest s (after_giving s 0 (slot.Directory k) id (dismissed me))
 
 -- ---- the latch of a place
 
@@ -116,6 +116,14 @@ NamingRests =
     (key : KeyName) (k : Keys) (h : LatchRecord) → MayName place key k h me →
     IsRest s (after_giving s place (slot.Place (empty_book key)) id (named place key me))
 
+-- giving the latch of a place back with the empty book of another key, which gets the place, leaves the system unchanged: the locks of both keys were empty
+-- before, and are so afterwards
+abbrev pub RenamingRests : Type 0
+RenamingRests =
+    (s : State Slot View) → Rule s → (place : ℕ) → HasPlace s place → (id : ℕ) (me : Mine) → get_elem? s.views id ≡ some me.0 →
+    (key : KeyName) (k : Keys) (h : LatchRecord) → MayRename place key k h me →
+    IsRest s (after_giving s place (slot.Place (empty_book key)) id (renamed place key me))
+
 -- ---- its word, under the latch
 
 -- raising flags leaves the system unchanged
@@ -157,3 +165,23 @@ FindingVersionRests =
     (kept : List Kept) (st : Step Slot) (found : ℕ) → st.word ≡ version_word place → found ≡ slice_index s.words (version_word place) →
     finds_version kept st me found me′ →
     IsRest s (after_step s (version_word place) found id me′)
+
+-- ---- its pins
+
+-- pinning a place leaves the system unchanged
+abbrev pub PinningRests : Type 0
+PinningRests =
+    (s : State Slot View) → Rule s → (place : ℕ) → HasPlace s place → (id : ℕ) (me me′ : Mine) → get_elem? s.views id ≡ some me.0 →
+    (st : Step Slot) (found left : ℕ) → st.word ≡ pins_word place → pins_place st me found me′ → IsRest s (after_step s (pins_word place) left id me′)
+
+-- unpinning a place leaves the system unchanged
+abbrev pub UnpinningRests : Type 0
+UnpinningRests =
+    (s : State Slot View) → Rule s → (place : ℕ) → HasPlace s place → (id : ℕ) (me me′ : Mine) → get_elem? s.views id ≡ some me.0 →
+    (st : Step Slot) (found left : ℕ) → st.word ≡ pins_word place → unpins_place st me found me′ → IsRest s (after_step s (pins_word place) left id me′)
+
+-- reading the pins of a place leaves the system unchanged
+abbrev pub ReadingPinsRests : Type 0
+ReadingPinsRests =
+    (s : State Slot View) → Rule s → (place : ℕ) → HasPlace s place → (id : ℕ) (me me′ : Mine) → get_elem? s.views id ≡ some me.0 →
+    (st : Step Slot) (found left : ℕ) → st.word ≡ pins_word place → reads_pins st me found me′ → IsRest s (after_step s (pins_word place) left id me′)

@@ -2,7 +2,7 @@
 //! system, a state of the table has (`specs/Locks`), that this system is lawful, and that each step of a session is one event of it or
 //! leaves it unchanged (`specs/EachStep`), as its entry in the session's list of steps tells (`specs/Entries`). Steps are made under a latch
 //! (`specs/StepEvents`), on wait words (`specs/WaitLaws`), or by a lock word's fast path (`specs/FastLaws`). What holds of each table that
-//! is reached by such steps is in `specs/Cares` and `specs/Waits`.
+//! is reached by such steps is in `specs/Cares` and `specs/Waits`, and which places keep their keys in `specs/PinLaws`.
 //!
 //! There is no code here: each law is the contract of a function that does nothing.
 #![tactic(auto)]
@@ -12,6 +12,7 @@ mod each_step;
 mod entries;
 mod fast_path;
 mod headline;
+mod pins;
 mod rests;
 mod steps;
 mod tables;
@@ -29,11 +30,15 @@ pub use fast_path::{
     waiters_have_no_fast_tickets,
 };
 pub use headline::definitions_stay;
+pub use pins::{
+    known_keys_have_their_places, pinned_places_keep_their_keys, versioned_places_keep_their_keys,
+};
 pub use rests::{
-    consulting_rests, drawing_rests, finding_version_rests, informing_rests, lowering_rests,
-    missing_directory_rests, missing_rests, naming_rests, putting_reading_rests, putting_rests,
-    putting_searched_rests, putting_served_rests, raising_rests, reading_rests,
-    reading_version_rests, splitting_rests, taking_rests,
+    consulting_rests, dismissing_rests, drawing_rests, finding_version_rests, lowering_rests,
+    missing_directory_rests, missing_rests, naming_rests, pinning_rests, putting_reading_rests,
+    putting_rests, putting_searched_rests, putting_served_rests, raising_rests, reading_pins_rests,
+    reading_rests, reading_version_rests, renaming_rests, splitting_rests, taking_rests,
+    unpinning_rests,
 };
 pub use steps::{lowering_brings, putting_brings, writing_brings};
 pub use tables::{

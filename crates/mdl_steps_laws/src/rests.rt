@@ -1,6 +1,6 @@
 //! The steps that leave the table's system unchanged. Each law is proved as the contract of a function that does
 //! nothing.
-ghost use Rattle.mdl_steps_laws.specs.RestLaws.{ConsultingRests, DrawingRests, FindingVersionRests, InformingRests, LoweringRests, MissingDirectoryRests, MissingRests, NamingRests, PuttingReadingRests, PuttingRests, PuttingSearchedRests, PuttingServedRests, RaisingRests, ReadingRests, ReadingVersionRests, SplittingRests, TakingRests};
+ghost use Rattle.mdl_steps_laws.specs.RestLaws.{ConsultingRests, DismissingRests, DrawingRests, FindingVersionRests, LoweringRests, MissingDirectoryRests, MissingRests, NamingRests, PinningRests, PuttingReadingRests, PuttingRests, PuttingSearchedRests, PuttingServedRests, RaisingRests, ReadingPinsRests, ReadingRests, ReadingVersionRests, RenamingRests, SplittingRests, TakingRests, UnpinningRests};
 
 /// Drawing a number for one more session leaves the system unchanged.
 pub fn drawing_rests()
@@ -23,8 +23,8 @@ pub fn missing_directory_rests()
 {}
 
 /// Giving the directory's latch back leaves the system unchanged.
-pub fn informing_rests()
-    ensures { InformingRests }
+pub fn dismissing_rests()
+    ensures { DismissingRests }
 {}
 
 /// Taking the latch of a place leaves the system unchanged.
@@ -62,6 +62,11 @@ pub fn naming_rests()
     ensures { NamingRests }
 {}
 
+/// Giving the latch of a place back with the book of another key, which gets the place, leaves the system unchanged.
+pub fn renaming_rests()
+    ensures { RenamingRests }
+{}
+
 /// Raising flags leaves the system unchanged.
 pub fn raising_rests()
     ensures { RaisingRests }
@@ -85,4 +90,19 @@ pub fn reading_version_rests()
 /// Looking a place's version up in a cache, without the latch, leaves the system unchanged.
 pub fn finding_version_rests()
     ensures { FindingVersionRests }
+{}
+
+/// Pinning a place leaves the system unchanged.
+pub fn pinning_rests()
+    ensures { PinningRests }
+{}
+
+/// Unpinning a place leaves the system unchanged.
+pub fn unpinning_rests()
+    ensures { UnpinningRests }
+{}
+
+/// Reading the pins of a place leaves the system unchanged.
+pub fn reading_pins_rests()
+    ensures { ReadingPinsRests }
 {}

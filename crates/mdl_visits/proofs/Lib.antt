@@ -28,6 +28,7 @@ pub mod Lookups
 pub mod KeyLists
 pub mod Pins
 pub mod Naming
+pub mod GivingAnew
 pub mod Asking
 pub mod Gathering
 pub mod Sorting

@@ -86,7 +86,7 @@ module _ (place : ℕ) (asked copy : KeyName) (k : Keys) (a l : SeatState) (is :
 
 -- what a record tells of a seat doesn't hang on its list of steps
 fresh_then : (place : ℕ) (h : LatchRecord) (made : List StepRecord) (m : Mine) → IsFresh place h m → IsFresh place h (and_made made m)
-fresh_then place h made m f = record { here = f.here; exact = f.exact; unnoted = f.unnoted; inexact = f.inexact; unfreed = f.unfreed; lawful = f.lawful; modes = f.modes; own = f.own; named = f.named; keyed = f.keyed; vacant = f.vacant; once = f.once; single = f.single; wished = f.wished; lost = f.lost; stands = f.stands; reads = f.reads; noted = f.noted; fast_noted = f.fast_noted; fast_few = f.fast_few; fast_plain = f.fast_plain; fast_beside = f.fast_beside; unmixed = f.unmixed }
+fresh_then place h made m f = record { here = f.here; exact = f.exact; unnoted = f.unnoted; inexact = f.inexact; unfreed = f.unfreed; lawful = f.lawful; modes = f.modes; own = f.own; named = f.named; keyed = f.keyed; vacant = f.vacant; once = f.once; single = f.single; wished = f.wished; lost = f.lost; stands = f.stands; reads = f.reads; noted = f.noted; fast_noted = f.fast_noted; fast_few = f.fast_few; fast_plain = f.fast_plain; fast_beside = f.fast_beside; unmixed = f.unmixed; unpinned = f.unpinned }
 
 -- ---- the same along the calls, the held latch being that of the place
 

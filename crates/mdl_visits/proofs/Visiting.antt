@@ -36,7 +36,7 @@ inside_at place latches book m log = (record m.0 { latches = latches; log = log 
 pub fresh_before : (place : ℕ) (h : LatchRecord) (m m′ : Mine) → MakesSteps m m′ → IsFresh place h m′ → IsFresh place h m
 fresh_before place h m m′ steps fresh =
     let f : IsFresh place h (and_made steps.0 m) = subst (IsFresh place h) steps.1 fresh in
-    record { here = f.here; exact = f.exact; unnoted = f.unnoted; inexact = f.inexact; unfreed = f.unfreed; lawful = f.lawful; modes = f.modes; own = f.own; named = f.named; keyed = f.keyed; vacant = f.vacant; once = f.once; single = f.single; wished = f.wished; lost = f.lost; stands = f.stands; reads = f.reads; noted = f.noted; fast_noted = f.fast_noted; fast_few = f.fast_few; fast_plain = f.fast_plain; fast_beside = f.fast_beside; unmixed = f.unmixed }
+    record { here = f.here; exact = f.exact; unnoted = f.unnoted; inexact = f.inexact; unfreed = f.unfreed; lawful = f.lawful; modes = f.modes; own = f.own; named = f.named; keyed = f.keyed; vacant = f.vacant; once = f.once; single = f.single; wished = f.wished; lost = f.lost; stands = f.stands; reads = f.reads; noted = f.noted; fast_noted = f.fast_noted; fast_few = f.fast_few; fast_plain = f.fast_plain; fast_beside = f.fast_beside; unmixed = f.unmixed; unpinned = f.unpinned }
 
 pub inside_taken : (place : ℕ) (h : LatchRecord) (m m′ : Mine) (made : List StepRecord) → IsRising place m → h.place ≡ place → m′ ≡ latched place h (and_made made m) → deeds_of made ≡ [] → IsInside place m m′
 inside_taken place h m m′ made rising here taken did =

@@ -5,7 +5,7 @@ pub use Rattle.mdl_visits.specs.FirstWords.{AllQuiet, AreKeyed, AreRecorded, Are
 pub use Rattle.mdl_visits.specs.Grantings.{AreGranted, GrantsWaits, HasJustMet, HasRescheduled, IsGrantableAt, IsGrantableTicket, IsGrantedFrom, IsLowered, IsOrderlyLatch, IsTried, IsTriedOrGranted, MeetsGranted, ReschedulesAndLeaves, ReschedulesInTurn, StandsOnce, StaysTold, VisitsAndReschedules, ahead_of, all_but}
 pub use Rattle.mdl_visits.specs.Idle.{HoldsNoLatch}
 pub use Rattle.mdl_visits.specs.Leavings.{DidUnder, DoesToOwn, HasTicket, HasWorked, Learns, Leaves, MeetsOwn, MeetsStanding, MergesOwn, PutsBack, knowing_read}
-pub use Rattle.mdl_visits.specs.Lookups.{AsksDirectory, HadEither, HasLooked, HasNamed, HoldsKeys, IsAddedToDirectory, IsLookupAnswer, IsNext, TookDirectory, given_back, knowing_key, relisted}
+pub use Rattle.mdl_visits.specs.Lookups.{AreInUse, AsksDirectory, HadEither, HasGiven, HasLooked, HasNamed, HoldsKeys, IsAddedToDirectory, IsLookupAnswer, IsNext, IsUsed, MayGiveAnew, MeetsUse, PassesOver, TakesUnused, TookDirectory, WasInUse, WasUnused, and_idle, given_back, knowing_key, relisted}
 pub use Rattle.mdl_visits.specs.Materialisings.{AreUngranted, CanStand, LacksRoomFor, LacksRoomIn, Materialises, MeetsFullFor, Stand, WasMaterialised, all_slow, granting_own, with_book}
 pub use Rattle.mdl_visits.specs.Readings.{SeatReadsNothing, SeatReadsThere, WasHeld, WereHeld}
 pub use Rattle.mdl_visits.specs.Redefinitions.{HasExclusiveAt, IsChangeRefused, IsNamed, IsRefusedAs, MeetsChangeFault, Redefines, exclusive_fault, redefined_and_put}

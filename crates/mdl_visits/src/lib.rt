@@ -32,10 +32,9 @@
 //! };
 //! let orders = Key::table(rt.alloc(), "test", "orders")?;
 //! let lines = Key::table(rt.alloc(), "test", "lines")?;
-//! // A new key gets the next place, and keeps it.
+//! // A new key gets the next place, and keeps it as long as a session pins it.
 //! assert_eq!(rt; resolve(&rt, &mut seat, rt.alloc(), &orders), Ok(1));
 //! assert_eq!(rt; resolve(&rt, &mut seat, rt.alloc(), &lines), Ok(2));
-//! assert_eq!(rt; resolve(&rt, &mut seat, rt.alloc(), &orders), Ok(1));
 //! ```
 #![tactic(auto)]
 

@@ -4,7 +4,7 @@ use thiserror::Error;
 /// Why a key has no place. A refused call gives no key a place.
 #[derive(Clone, Copy, Debug, PartialEq, Eq, Error)]
 pub enum ResolveError {
-    /// Each place has a key, and this key has none.
+    /// Each place is in use, and this key has none.
     #[error("no place is left")]
     NoPlace,
     /// Memory ran out.

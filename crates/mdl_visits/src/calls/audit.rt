@@ -27,7 +27,7 @@ pub fn audit<R: Wait>(
     let directory = await_directory(rt, seat);
     let last = seat.key_count(&directory);
     let outcome = audit_from(rt, seat, 1, last, audited);
-    seat.put_directory(directory, 0);
+    seat.put_directory(directory);
     outcome
 }
 

@@ -38,7 +38,7 @@ pub fn search_deadlock<R: Wait>(
     let last = seat.key_count(&directory);
     let mut graph = WaitGraph::new(alloc, Sessions::new()); // so far nobody's wait is known to be settled
     let outcome = search_from(rt, seat, alloc, 1, last, &mut graph);
-    seat.put_directory(directory, 0);
+    seat.put_directory(directory);
     outcome
 }
 
