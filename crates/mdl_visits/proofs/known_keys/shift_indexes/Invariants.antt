@@ -5,6 +5,6 @@ use Rattle.mdl_visits.proofs.known_keys.shift_indexes.Given as goal
 
 abbrev pub invariant-loop-at : goal.invariant-loop-at
 invariant-loop-at l = record {
-  behind : AreBehind l.at l.fn.places.now.entries l.indexes;
+  behind : AreBehind l.at l.fn.places.entries l.indexes;
   same : length l.indexes ≡ length l.fn.indexes;
 }
