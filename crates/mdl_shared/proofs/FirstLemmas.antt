@@ -27,4 +27,4 @@ pub use Rattle.mdl_shared.proofs.TicketSearch.{each_at, elsewhere, no_ticket, no
 pub use Rattle.mdl_shared.specs.FastDeeds.{AreSameOrSlow, AreSlowBefore, HasNoFast}
 pub use Rattle.mdl_shared.specs.FastWishes.{BecomesSlow, BeginsToWait, GainsFast, GainsSlow, HasBegun, HasTried}
 pub use Rattle.mdl_shared.specs.FirstWords.{AllMadeSlow, Already, AlreadyWaiting, AreByPlace, AreStepsOf, At_place, Attempt, BadMode, Begun, ByLatch, ByThisCall, ByVisit, Change, Changed, CounterFull, DidDeeds, DoesQuietly, Done, EndsByOneStep, EndsOwnWait, Fast, FindsClosed, FindsVersion, FromUnfast, Full, FullForFast, GivesUpFast, GivesUpSlow, Granted, GrantsAtLast, HasAsked, HasMet, HasRescheduled, Has_killed, Has_wait, IsCloned, IsClosed, IsGranted, IsNextFast, Is_settled, LacksMemory, LacksRoomForFast, LacksRoomForWish, LooksAtKeys, LooksThen, Lost, MakesSlow, MeetsBlocked, MeetsFull, MeetsFullWish, MeetsGrantable, MeetsOpening, MeetsOther, MeetsOwn, MeetsOwnWait, MeetsTicket, MeetsWait, MissesVersion, NoPlace, No_cycle, NotFast, OfTicket, Opens, OutOfMemory, Pays, Pending, Reads, ReadsByLatch, ReadsUnsettled, ReadsVersion, Redefines, SearchesFor, SettlesNothing, ShowsStep, SlowsAll, SlowsInTurn, StaysFast, StaysFor, StaysSame, StepRecord, StopsOrVisits, StopsSlowing, Tables, Timed_out, TookDirectory, Upgraded, Victim_is, VisitsInVain, VisitsOnce, Waits, Would_wait, X, asks_at, can_have, can_merge, clone_fault, covers, downgrade_fault, exclusive_fault, granted_state, has_ticket_at, holding_fault, is_used, is_within, merge_deeds, merge_fault, mine_without_wait, most_fast, obtrudes_at, own_wait_read, rise_deeds, upgrade_deeds, upgrade_fault, wait_fault, wait_in, wish_fault}
-pub use Rattle.mdl_shared.specs.Prelude.{Asked, ChangesThere, DoesToOwn, DrawsTicket, EndWait, Ended, EndsLost, EndsWait, Faulty, Found, GrantsFast, InUse, IsChangeRefused, IsDirectoryTable, IsFit, IsLost, IsNamed, IsSession, IsSettled, IsSortedByKey, IsStableByKey, IsStepOf, IsUnfit, IsVisit, Killed, Knowledge, KnowsKind, KnowsVictim, Learns, LearnsAt, LearnsTables, LearnsVersion, MakesMoreSteps, Materialises, MayAsk, MayClone, MayDowngrade, MayNotClone, MayNotDowngrade, MayNotUpgrade, MayReleaseFast, MayUpgrade, MeetsFullFor, MeetsStanding, MeetsWord, Mergeable, MissWait, NoWait, NotExclusive, NotHeld, NotUpgradable, OfHeld, Once, ReadNoneNewer, ReadOneStanding, ReadWait, Read_so, RequestsMode, SettleWait, Settlement, StaysOn, StaysQuiet, StaysThere, TellsOwn, Timeout, Unsettled, Upgrade, Victim, WaitOk, WasHeld, and_made, asked_places, asking, attempted, begun, but_searching, cause_of, change_takes_memory, cloned, cloning, ended, ended_granted, fast_own, gaining, gives_back, held_at, holds, idle, is_obtrusive, is_of_tables, is_of_tables_told, is_table_of, is_table_told, kind_raises_flags, knowing_all, knowing_key, learnt_version, logged, may_downgrade, may_merge_told, may_upgrade, meeting, merging, met_version, moved, noted_version, number_of_wait, position, position_or_len, same_mode, searched, taken_over, ticket_by, ticket_drawn, ticket_held, ties, unwrap_or, upgrade_tried, upgraded, version_word, view_awaiting, wait_drawn, wait_number, wait_state, wait_word, waiter_of, was_read, winning, without_place}
+pub use Rattle.mdl_shared.specs.Prelude.{Asked, ChangesThere, DoesToOwn, DrawsTicket, EndWait, Ended, EndsLost, EndsWait, Faulty, Found, GrantsFast, InUse, IsChangeRefused, IsDirectoryTable, IsFit, IsLost, IsNamed, IsSession, IsSettled, IsSortedByKey, IsStableByKey, IsStepOf, IsUnfit, IsVisit, Killed, Knowledge, KnowsKind, KnowsVictim, Learns, LearnsAt, LearnsTables, LearnsVersion, MakesMoreSteps, Materialises, MayAsk, MayClone, MayDowngrade, MayNotClone, MayNotDowngrade, MayNotUpgrade, MayReleaseFast, MayUpgrade, MeetsFullFor, MeetsStanding, MeetsWord, Mergeable, MissWait, NoWait, NotExclusive, NotHeld, NotUpgradable, OfHeld, Once, ReadNoneNewer, ReadOneStanding, ReadWait, ReadWhatFits, Read_so, RequestsMode, SettleWait, Settlement, StaysOn, StaysQuiet, StaysThere, TellsOwn, Timeout, Unsettled, Upgrade, Victim, WaitOk, WasHeld, and_made, asked_places, asking, attempted, begun, but_searching, cause_of, change_takes_memory, cloned, cloning, ended, ended_granted, fast_own, gaining, gives_back, held_at, holds, idle, is_obtrusive, is_of_tables, is_of_tables_told, is_table_of, is_table_told, kind_raises_flags, knowing_all, knowing_key, learnt_version, logged, may_downgrade, may_merge_told, may_upgrade, meeting, merging, met_version, moved, noted_version, number_of_wait, position, position_or_len, same_mode, searched, taken_over, ticket_by, ticket_drawn, ticket_held, ties, unwrap_or, upgrade_tried, upgraded, version_word, view_awaiting, wait_drawn, wait_number, wait_state, wait_word, waiter_of, was_read, winning, without_place}

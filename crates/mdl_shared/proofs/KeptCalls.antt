@@ -1,7 +1,7 @@
 -- What a session's read with a cache shows, and what the cache keeps then.
 use Rattle.std.proofs.Common.{◌≡◌, ◌⊎◌, ℕ, is_some, List, [], ◌∷◌, ◌++◌, Contains, MatchOption, Option, Some, None, if◌then◌else◌, inl, inr, refl, sym, ap, subst, ◌∙◌}
 use Rattle.mdl_session_laws.proofs.ReadLaws.{session-met_stays}
-use Rattle.mdl_shared.proofs.FirstLemmas.{Answer, AreMet, CacheView, Call, Definition, FindsVersion, HasMet, Held, IsMember, Joins, KeepsRoom, Kept, Lists, MayKeep, Member, MissesVersion, NotHeld, OfHeld, OfTicket, OutOfMemory, ReadNoneNewer, ReadOneStanding, Read_definition, Read_kept, Read_so, Reading, Reads, ReadsByLatch, Refused, Room, SeatState, SessionData, SessionLocks, SessionTicket, SessionView, Shows, SpaceError, VersionedDefinition, VisitsInVain, all_tickets, data_of, does_then, holding_fault, if-clear, keeps-before, keeps-same, kept_of, kept_standing, lists_seen, looked_at, member, met_version, middle, noted_version, numbered, same-debts, session_at, speaks, ticket_held, tickets_seen, view_of}
+use Rattle.mdl_shared.proofs.FirstLemmas.{Answer, AreMet, CacheView, Call, Definition, FindsVersion, HasMet, Held, IsMember, Joins, KeepsRoom, Kept, Lists, MayKeep, Member, MissesVersion, NotHeld, OfHeld, OfTicket, OutOfMemory, ReadNoneNewer, ReadOneStanding, ReadWhatFits, Read_definition, Read_kept, Read_so, Reading, Reads, ReadsByLatch, Refused, Room, SeatState, SessionData, SessionLocks, SessionTicket, SessionView, Shows, SpaceError, VersionedDefinition, VisitsInVain, all_tickets, data_of, does_then, holding_fault, if-clear, keeps-before, keeps-same, kept_of, kept_standing, lists_seen, looked_at, member, met_version, middle, noted_version, numbered, same-debts, session_at, speaks, ticket_held, tickets_seen, view_of}
 use Rattle.mdl_shared.proofs.CacheEntries.{kept-met, met-first, met-looked, none-looked}
 use Rattle.mdl_shared.proofs.ReadCalls.{noted-owes}
 use Rattle.mdl_shared.proofs.VersionCalls.{finds-joins, finds-version, found-does, found-noted, found-now, kept-joins, read-does, read-lists, read-owes, read-searches, read-sessions, read-settles, read-space, read-table, read-told, version-missed}
@@ -145,21 +145,21 @@ met-read a b place standing reads =
 
 module _ {s s′ : SessionView} (is : IsMember s) (id : ℕ) (t : SessionTicket) (its : numbered id (tickets_seen s.me.0) ≡ Some t) (kept : List Kept)
     (met : AreMet (HasMet (data_of s) s.me.0.number) kept) (version : ℕ) (d : Definition) (hit : kept_of t.place version kept ≡ Some d)
-    (newest : ReadNoneNewer t.place version s.me) (one : ReadOneStanding t.place version s.me)
+    (newest : ReadNoneNewer t.place version s.me) (one : ReadOneStanding t.place version s.me) (what : ReadWhatFits t.place version s.me)
     (now : s′.me ≡ noted_version t.place version s.me) (same : s′ ≡ record s { me = s′.me; room = s′.room }) (keeps : KeepsRoom 0 s.room s′.room) where
   was-met : HasMet (data_of s) s.me.0.number t.place (kept_standing version d)
   was-met = kept-met (HasMet (data_of s) s.me.0.number) t.place version kept d met hit
 
   pub hit-finds : FindsVersion t.place (kept_standing version d) s s′
-  hit-finds = finds-version is id t its (kept_standing version d) was-met newest one now same keeps
+  hit-finds = finds-version is id t its (kept_standing version d) was-met newest one what now same keeps
 
   pub hit-joins : Joins (data_of s) (Read_definition s.me.0.number id) (Reads version (Some d)) (data_of s′)
-  hit-joins = finds-joins is id t its (kept_standing version d) was-met newest one hit-finds
+  hit-joins = finds-joins is id t its (kept_standing version d) was-met newest one what hit-finds
 
 -- where it was found by a session's seat
 module _ (m : Member) (id : ℕ) (t : SessionTicket) (its : numbered id (tickets_seen m.seat.me.0) ≡ Some t) (kept : List Kept)
     (met : AreMet (HasMet (data_of (view_of m)) m.seat.me.0.number) kept) (seat′ : SeatState) (version : ℕ) (d : Definition)
-    (hit : kept_of t.place version kept ≡ Some d) (newest : ReadNoneNewer t.place version m.seat.me) (one : ReadOneStanding t.place version m.seat.me)
+    (hit : kept_of t.place version kept ≡ Some d) (newest : ReadNoneNewer t.place version m.seat.me) (one : ReadOneStanding t.place version m.seat.me) (what : ReadWhatFits t.place version m.seat.me)
     (made : seat′ ≡ record m.seat { me = noted_version t.place version m.seat.me }) (room′ : Room) (keeps : KeepsRoom 0 m.tickets.room room′) where
   abbrev pub after : SessionView
   after = session_at seat′ m.sessions room′ m.known.pins
@@ -171,11 +171,11 @@ module _ (m : Member) (id : ℕ) (t : SessionTicket) (its : numbered id (tickets
   same = λ i. record { table = (made i).table; sessions = m.sessions; me = seat′.me; room = room′; pins = m.known.pins }
 
   pub seat-finds : FindsVersion t.place (kept_standing version d) (view_of m) after
-  seat-finds = hit-finds {s′ = after} (member m) id t its kept met version d hit newest one now same keeps
+  seat-finds = hit-finds {s′ = after} (member m) id t its kept met version d hit newest one what now same keeps
 
   pub seat-joins : Joins (data_of (view_of m)) (Read_kept m.seat.me.0.number id) (Reads version (Some d)) (data_of after)
   seat-joins = kept-joins (data_of (view_of m)) (data_of after) m.seat.me.0.number id version (Some d)
-      (hit-joins {s′ = after} (member m) id t its kept met version d hit newest one now same keeps)
+      (hit-joins {s′ = after} (member m) id t its kept met version d hit newest one what now same keeps)
 
   -- and each definition that the cache keeps was met still
   pub seat-still : AreMet (HasMet (data_of after) seat′.me.0.number) kept

@@ -4,8 +4,8 @@ use Rattle.mdl_calls.proofs.MappedLists.{pairs-map}
 use Rattle.mdl_key.specs.declared.namespace.Namespace.TheVariants as of
 use Rattle.std.proofs.lemmas.List.Kept.{AllPairs-filter}
 use Rattle.std.specs.Str.{bytes_eq}
-use Rattle.mdl_shared.proofs.FirstLemmas.{All-cons, All-filter, All-head, All-map, All-nil, All-tail, All-weaker, AreAllTables, AreLearnt, AreWithin, Asked, AtItsTable, At_place, DidDeeds, HasAsked, IsDirectoryTable, IsLookupAnswer, IsMember, Joins, KeepsRoom, KeyName, Keys, KnownKey, LearnsAt, LearnsTables, Less, Lists, MakesSteps, Member, Mine, Namespace, NoPlace, OutOfMemory, Refused, Resolve, Room, SeatState, SessionView, Shows, Stays, StaysInOrder, StaysQuiet, StepRecord, Tables, Tables_of, TookDirectory, and_made, are_apart, asked_after, asked_places, counted_and, data_of, does_steps, does_then, get_or-map, goes_on, is_known, is_of_tables, is_of_tables_told, is_table_of, is_table_told, keeps-settled, key_cmp, key_known, keys-apart, knowing_all, knowing_key, length-map, lists_seen, nat_tests, no_record, none_then, place-of_key, place_known, reads-nothing, refused, same-debts, sees-same, session_at, speaks, stays-known, took_earlier, unknown, view_of, visited, with_place, within_and}
-use Rattle.mdl_shared.proofs.KnownKeys.{all_learnt, apart_and, new_place}
+use Rattle.mdl_shared.proofs.FirstLemmas.{All-cons, All-filter, All-head, All-map, All-nil, All-tail, All-weaker, AreAllTables, AreLearnt, AreWithin, Asked, AtItsTable, At_place, DidDeeds, HasAsked, IsDirectoryTable, IsMember, Joins, KeepsRoom, KeyName, Keys, KnownKey, LearnsAt, LearnsTables, Less, Lists, MakesSteps, Member, Mine, Namespace, NoPlace, OutOfMemory, Refused, Resolve, Room, SeatState, SessionView, Shows, Stays, StaysInOrder, StaysQuiet, StepRecord, Tables, Tables_of, TookDirectory, and_made, are_apart, asked_after, asked_places, counted_and, data_of, does_steps, does_then, get_or-map, goes_on, is_known, is_of_tables, is_of_tables_told, is_table_of, is_table_told, keeps-settled, key_cmp, key_known, keys-apart, knowing_all, knowing_key, length-map, lists_seen, nat_tests, no_record, none_then, place-of_key, place_known, reads-nothing, refused, same-debts, sees-same, session_at, speaks, stays-known, took_earlier, unknown, view_of, visited, with_place, within_and}
+use Rattle.mdl_shared.proofs.KnownKeys.{all_learnt, apart_and}
 
 -- ---- a session that learns keys
 
@@ -152,17 +152,17 @@ module _ {s : SessionView} (is : IsMember s) (key : KeyName) where
         (λ state how met. cc) tt
 
 -- what the directory answers of a key that it doesn't know
-pub resolved : (seat seat′ : SeatState) (sessions place : ℕ) {room room′ : Room} {pins : List ℕ} (key : KeyName) → place_known key seat.me.0.known ≡ None
-    → ((0 < place) × (place < seat.table.slots) × MakesSteps (knowing_key (record { key = key; place = place }) seat.me) seat′.me)
-    → ((k left : Keys) × AtItsTable seat seat′ (TookDirectory seat.table.slots k left) × IsLookupAnswer seat.table.slots key k left (Ok place))
+pub resolved : (seat seat′ : SeatState) (sessions place : ℕ) {room room′ : Room} {pins : List ℕ} (key : KeyName)
+    → ((0 < place) × (place < seat.table.slots) × MakesSteps (knowing_key (record { key = key; place = place }) seat.me) seat′.me × (is_known place seat.me.0.known ≡ false))
+    → seat′.table ≡ seat.table
     → HasLearnt (record { key = key; place = place } ∷ []) (session_at seat sessions room pins) (session_at seat′ sessions room′ pins)
     × AreWithin seat.table.slots (record { key = key; place = place } ∷ []) × (is_known place seat.me.0.known ≡ false)
-resolved seat seat′ sessions place key none knows answer =
+resolved seat seat′ sessions place key knows table =
     let one : KnownKey = record { key = key; place = place } in
     let inside : KnownKey → Type 0 = λ k. (0 < k.place) × (k.place < seat.table.slots) in (
-      learnt-by seat seat′ sessions (one ∷ []) answer.2.0 knows.2,
+      learnt-by seat seat′ sessions (one ∷ []) table knows.2,
       All-cons inside one [] (knows.0, knows.1) (All-nil inside),
-      new_place seat.table.slots place key answer.0 answer.1 seat.me.0 answer.2.1.recorded.known answer.3 none,
+      knows.3,
     )
 
 -- ---- tables

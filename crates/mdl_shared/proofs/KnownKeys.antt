@@ -10,46 +10,10 @@ use Rattle.mdl_shared.proofs.Common.{All-cons, All-head, All-nil, All-tail, All-
 abbrev IsThere : List KeyName → KnownKey → Type 0
 IsThere keys x = (0 < x.place) × (key_at keys x.place ≡ Some x.key)
 
--- a place that is known is that of its key in the directory
-known_there : (keys : List KeyName) (known : List KnownKey) (place : ℕ) → Each (IsThere keys) known → is_known place known ≡ true
-    → (0 < place) × (k : KnownKey) × (k.place ≡ place) × (key_at keys place ≡ Some k.key) × (is_key_known known k.key ≡ true)
-known_there keys [] place each e = absurd (cc)
-known_there keys (k ∷ ks) place each e =
-    by_bool (k.place == place)
-    (λ hit.
-    let is = eqb-true k.place place hit in
-    let here = subst (λ (p : ℕ). (0 < p) × (key_at keys p ≡ Some k.key)) is each.0 in
-    let own : is_key_known (k ∷ ks) k.key ≡ true = rw ((key-Decides k.key k.key).1 refl) refl in
-    (here.0, k, is, here.1, own))
-    (λ miss.
-    let later = known_there keys ks place each.1 (rw miss at e) in
-    let still : is_key_known (k ∷ ks) later.1.key ≡ true = by_bool (key_eq k.key later.1.key) (λ same. rw same refl) (λ differ. rw differ later.4) in
-    (later.0, later.1, later.2, later.3, still))
-
--- a key that has a place is known by it
-known_none : (known : List KnownKey) (key : KeyName) → place_known key known ≡ None → is_key_known known key ≡ false
+-- a key whose place isn't known isn't known
+pub known_none : (known : List KnownKey) (key : KeyName) → place_known key known ≡ None → is_key_known known key ≡ false
 known_none [] key e = refl
 known_none (k ∷ ks) key e = by_bool (key_eq k.key key) (λ hit. (let here = rw hit at e in absurd (cc))) (λ miss. rw miss (known_none ks key (rw miss at e)))
-
--- a new key is at a place that the session didn't know: the directory had that key there, or none
-pub new_place : (slots place : ℕ) (key : KeyName) (k left : Keys) (v : View) → KnowsKeys k.keys v → IsLookupAnswer slots key k left (Ok place) → place_known key v.known ≡ None
-    → is_known place v.known ≡ false
-new_place slots place key k left v each answer new =
-    by_bool (is_known place v.known)
-    (λ known. absurd (never (known_there k.keys v.known place each known) answer))
-    (λ un. un)
-  where
-    never : (0 < place) × (x : KnownKey) × (x.place ≡ place) × (key_at k.keys place ≡ Some x.key) × (is_key_known v.known x.key ≡ true) → IsLookupAnswer slots key k left (Ok place) → ⊥
-    never is (inl old) =
-        let at = there key k.keys place old.0 in
-        let same : is.1.key ≡ key = (let both = sym is.3 ∙ at.1 in cc) in
-        let known = ap (is_key_known v.known) (sym same) ∙ is.4 in
-        let none = known_none v.known key new in
-        (let both : true ≡ false = sym known ∙ none in cc)
-    never is (inr next) =
-        let where_is : place - 1 ≡ length k.keys = (let e = next.1 in omega arith) in
-        let none = sym is.3 ∙ ap (slice_get k.keys) where_is ∙ none_after k.keys in
-        absurd (cc)
 
 -- ---- several keys more
 

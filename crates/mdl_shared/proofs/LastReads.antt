@@ -1,7 +1,7 @@
 -- What a session read of the version that stands at a place is what it read last there, and all that it knows of the place fits it.
 use Rattle.std.proofs.Common.{◌≡◌, ℕ, zero, suc, ◌≤◌, true, not, ◌==◌, ◌&&◌, List, [], ◌∷◌, Contains, Option, Some, None, inl, inr, if◌then◌else◌, refl, sym, ap, subst, ◌∙◌, arith, MatchOption, eq-eqb, eqb-true}
 use Rattle.mdl_system.proofs.MemberLemmas.{Contains-none}
-use Rattle.mdl_shared.proofs.FirstLemmas.{AllNoted, Contains-cons_cases, Contains-here, Contains-later, Each, Follows, HasMet, IsMember, KeyName, KnownKey, MayStand, ReadNoneNewer, ReadOneStanding, Reading, SessionTicket, SessionView, VersionedDefinition, all_noted, and_from, and_parts, are_apart, are_two, by_bool, data_of, each-uninterleaved, get_elem?, key_eq, key_known, keys-apart, last-among, last_read, list_all, newest-above, note_at, noted-some, numbered, option_map, option_or, or_left, or_right, own_at, placed-some, reads_at, some, some-injective, some-ne-none, tickets_seen, was_read}
+use Rattle.mdl_shared.proofs.FirstLemmas.{AllNoted, Contains-cons_cases, Contains-here, Contains-later, Each, Follows, HasMet, IsMember, ReadNoneNewer, ReadOneStanding, ReadWhatFits, Reading, SessionTicket, SessionView, VersionedDefinition, all_noted, and_from, and_parts, by_bool, data_of, each-uninterleaved, last-among, last_read, newest-above, note_at, noted-some, numbered, option_map, option_or, or_left, or_right, own_at, placed-some, reads_at, tickets_seen, was_read}
 
 -- ---- what was read at a place
 
@@ -46,27 +46,6 @@ each-among P (y ∷ ys) all x among = elim (Contains-cons_cases y ys x among) [
   | inr same ↦ subst P (sym same) all.0
 ]
 
--- ---- a key that is known
-
-two-at : (x : KnownKey) (known : List KnownKey) → list_all (are_two x) known ≡ true → (i : ℕ) (k : KnownKey) → get_elem? known i ≡ some k → are_two x k ≡ true
-two-at x [] all i k there = absurd (some-ne-none k (sym there))
-two-at x (y ∷ ys) all zero k there =
-    ap (are_two x) (sym (some-injective y k there)) ∙ (and_parts (are_two x y) (list_all (are_two x) ys) all).0
-two-at x (y ∷ ys) all (suc i) k there = two-at x ys (and_parts (are_two x y) (list_all (are_two x) ys) all).1 i k there
-
--- it is that of its place, wherever it stands in the list
-key-at : (known : List KnownKey) → are_apart known ≡ true → (i : ℕ) (k : KnownKey) → get_elem? known i ≡ some k → key_known k.place known ≡ Some k.key
-key-at [] apart i k there = absurd (some-ne-none k (sym there))
-key-at (x ∷ xs) apart zero k there =
-    let hit = eq-eqb x.place x.place refl in
-    subst (λ (y : KnownKey). key_known y.place (x ∷ xs) ≡ Some y.key) (some-injective x k there) (rw hit refl)
-key-at (x ∷ xs) apart (suc i) k there =
-    let parts = and_parts (list_all (are_two x) xs) (are_apart xs) apart in
-    let two = and_parts (not (key_eq x.key k.key)) (not (x.place == k.place)) (two-at x xs parts.0 i k there) in
-    by_bool (x.place == k.place)
-    (λ hit. let no = rw hit at two.1 in cc)
-    (λ miss. rw miss (key-at xs parts.1 i k there))
-
 -- ---- what is noted at a place
 
 as-noted : (place : ℕ) (mark : Option ℕ) (tickets : List SessionTicket) → Each (λ (x : SessionTicket). x.place ≡ place → x.noted ≡ mark) tickets → AllNoted place mark tickets
@@ -85,7 +64,8 @@ each-noted place version mark (t ∷ ts) all so =
 -- ---- a version that was read and stands
 
 module _ {s : SessionView} (is : IsMember s) (id : ℕ) (t : SessionTicket) (its : numbered id (tickets_seen s.me.0) ≡ Some t) (standing : VersionedDefinition)
-    (met : HasMet (data_of s) s.me.0.number t.place standing) (newest : ReadNoneNewer t.place standing.version s.me) (one : ReadOneStanding t.place standing.version s.me) where
+    (met : HasMet (data_of s) s.me.0.number t.place standing) (newest : ReadNoneNewer t.place standing.version s.me) (one : ReadOneStanding t.place standing.version s.me)
+    (what : ReadWhatFits t.place standing.version s.me) where
   pub was-read : Contains s.me.0.reads (record { place = t.place; standing = standing })
   was-read = met
 
@@ -120,18 +100,13 @@ module _ {s : SessionView} (is : IsMember s) (id : ℕ) (t : SessionTicket) (its
       sym (ap (option_map (λ (x : VersionedDefinition). x.version)) is-last) ∙ is.sound.noted t.place v noted in
       cc
 
-  may-stand : (key : KeyName) → key_known t.place s.me.0.known ≡ Some key → MayStand key.namespace standing
-  may-stand key known =
-      subst (λ (o : Option KeyName). MatchOption o ⊥ (λ (k : KeyName). MayStand k.namespace standing)) known
-      (is.sound.fits t.place standing is-last)
-
   -- so it follows all that the session knows of the place
   pub follows-last : Follows t.place standing s.me
   follows-last =
       let all = each-uninterleaved _ s.me.0.slow s.me.0.fast (all_noted t.place (tickets_seen s.me.0) is.alike) in
       record {
         reads = after (reads_at t.place s.me.0.reads) (λ r among. among) newest;
-        fits = λ i k known here. may-stand k.key (ap (λ (p : ℕ). key_known p s.me.0.known) (sym here) ∙ key-at s.me.0.known (keys-apart is) i k known);
+        fits = what _ there refl;
         noted = each-noted t.place standing.version _ s.me.0.slow all.0 marked;
         fast_noted = each-noted t.place standing.version _ s.me.0.fast all.1 marked;
       }

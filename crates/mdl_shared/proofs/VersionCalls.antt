@@ -2,7 +2,7 @@
 use Rattle.std.proofs.Common.{◌≡◌, ℕ, true, List, [], ◌∷◌, ◌++◌, map, Option, Some, inr, refl, sym, ap, ◌∙◌}
 use Rattle.mdl_session_laws.proofs.ReadAfter.{HasLearnt, meets-fits}
 use Rattle.mdl_steps.specs.declared.step_kind.StepKind.TheVariants as step
-use Rattle.mdl_shared.proofs.FirstLemmas.{Definition, DidDeeds, Does, FindsVersion, HasMet, IsMember, Joins, KeepsRoom, LearnsVersion, Mine, MissesVersion, ReadNoneNewer, ReadOneStanding, Read_definition, Read_kept, Reads, ReadsVersion, Room, SeatState, SessionData, SessionTicket, SessionView, StepRecord, VersionedDefinition, as_held, data_of, in-order, is-known, is_known, learns-sound, learnt_version, lists_seen, meets-there, met_version, noted-in, noted_under, noted_version, noting-all, noting-elsewhere, noting-told, noting_version, numbered, read-last, session_at, tickets_seen, version_word}
+use Rattle.mdl_shared.proofs.FirstLemmas.{Definition, DidDeeds, Does, FindsVersion, HasMet, IsMember, Joins, KeepsRoom, LearnsVersion, Mine, MissesVersion, ReadNoneNewer, ReadOneStanding, ReadWhatFits, Read_definition, Read_kept, Reads, ReadsVersion, Room, SeatState, SessionData, SessionTicket, SessionView, StepRecord, VersionedDefinition, as_held, data_of, in-order, is-known, is_known, learns-sound, learnt_version, lists_seen, meets-there, met_version, noted-in, noted_under, noted_version, noting-all, noting-elsewhere, noting-told, noting_version, numbered, read-last, session_at, tickets_seen, version_word}
 use Rattle.mdl_shared.proofs.LastReads.{follows-last, is-last, was-read}
 use Rattle.mdl_shared.proofs.ReadCalls.{HasNoted, NotesAll, last-joins, noted-order, noted-tickets}
 use Rattle.mdl_shared.proofs.WaitSteps.{quietly}
@@ -86,22 +86,23 @@ module _ {place : ℕ} {standing : VersionedDefinition} {a b : SessionView} (fin
   found-does = (met-at place standing.version a ∷ [], found-log, refl)
 
 module _ {s s′ : SessionView} (is : IsMember s) (id : ℕ) (t : SessionTicket) (its : numbered id (tickets_seen s.me.0) ≡ Some t) (standing : VersionedDefinition)
-    (met : HasMet (data_of s) s.me.0.number t.place standing) (newest : ReadNoneNewer t.place standing.version s.me) (one : ReadOneStanding t.place standing.version s.me) where
+    (met : HasMet (data_of s) s.me.0.number t.place standing) (newest : ReadNoneNewer t.place standing.version s.me) (one : ReadOneStanding t.place standing.version s.me)
+    (what : ReadWhatFits t.place standing.version s.me) where
   pub finds-version : s′.me ≡ noted_version t.place standing.version s.me → s′ ≡ record s { me = s′.me; room = s′.room } → KeepsRoom 0 s.room s′.room
       → FindsVersion t.place standing s s′
   finds-version now same keeps = record {
     now = now;
     same = same;
     room = keeps;
-    read = was-read is id t its standing met newest one;
-    follows = follows-last is id t its standing met newest one;
+    read = was-read is id t its standing met newest one what;
+    follows = follows-last is id t its standing met newest one what;
   }
 
   pub finds-joins : FindsVersion t.place standing s s′ → Joins (data_of s) (Read_definition s.me.0.number id) (Reads standing.version standing.definition) (data_of s′)
   finds-joins finds =
       let noted = found-noted finds in
       last-joins is id t its standing noted finds.follows
-      (inr (ap (λ (x : SessionView). (data_of x).reads) noted.now, is-last is id t its standing met newest one))
+      (inr (ap (λ (x : SessionView). (data_of x).reads) noted.now, is-last is id t its standing met newest one what))
 
 -- ---- the version is read, and what is defined in it counts as read
 

@@ -49,7 +49,7 @@ GivesUpFast id a b t =
 -- the directory was looked at once, and this is its answer for a key
 abbrev pub LooksUp : KeyName → Result ℕ ResolveError → SessionView → SessionView → Type 0
 LooksUp key result a b =
-    (k left : Keys) × TookDirectory a.table.slots k left a.me b.me × IsLookupAnswer a.table.slots key k left result
+    (k left : Keys) × (took : TookDirectory a.table.slots k left a.me b.me) × IsLookupAnswer a.table.slots key k left took.within result
 
 -- the directory was looked at once, and it is unchanged
 abbrev pub LooksAtKeys : SessionView → SessionView → Type 0

@@ -16,5 +16,5 @@ pub use Rattle.mdl_steps.specs.declared.slot.Slot.{Slot}
 pub use Rattle.mdl_system.proofs.Deciding.{key-Decides}
 pub use Rattle.mdl_system.proofs.StrengthLemmas.{covers-at_least, downgrade-listed}
 pub use Rattle.mdl_visits.specs.FirstWords.{AddsBook, Alter, AtItsTable, BookError, BookView, Deed, Each, Equal, Flagged, Gain, GrantFast, GraphView, Greater, HasDirectory, Holds, IsGraphOf, IsPlace, IsStepOf, KeyName, Keys, KnownKey, LatchRecord, Less, MayJoin, MayPut, Member, Mine, MissFast, Mode, NotWaited, Once, PutLatch, SeatState, SessionTicket, StepRecord, TableId, TakeLatch, TellsLists, Ticket, VersionedDefinition, View, all_done, before_first, blocks_by, consulted, counts_of, covers, elsewhere, empty_graph, flags_lowered, get_elem?, goes_first, held_at, is_compatible, is_eq, is_lt, is_mode_of, is_table_of, is_ticket, key_at, key_cmp, key_eq, kind_of, latch_word, list_any, listing, lock_kind, lock_word, may_downgrade, nat_cmp, nobody, obtrusive_flag, ordering_reverse, own_at, place_among, position_or_len, rest, some, tables_from, ticket_by, ticket_of, unlatched, unsettled_deadlock, victim_in, waits, with_admitted, with_index, with_mode, without, written}
-pub use Rattle.mdl_visits.specs.Prelude.{Ask, Contains, Distinct, IsAtLeast, IsDistinct, IsFresh, IsRising, IsUnused, Kind, List, LowerFlags, MayGrantFast, MayInform, MayName, MissLatch, RaiseFlags, ReadWord, StandThere, StepKind, [], admitting, after_first, all_modes, any_obtrusive, ap, are_apart, are_two, booked, can_be_granted, change_fault, changed, changing, empty_book, filter, granted_fast, has_obtrusive, has_tickets, informed, is_at_least, is_key_known, is_known, is_lawful, is_obtrusive, is_ready, key_known, kind_known, latched, learnt, list_all, may_stand, missed_fast, missed_latch, named, next_grantable, noting, option_and_then, option_map, option_to_list, place_known, raised, recorded_key, served, some-injective, some-ne-none, stepped, table_at, ℕ}
+pub use Rattle.mdl_visits.specs.Prelude.{Ask, Contains, Distinct, IsAtLeast, IsDistinct, IsFresh, IsRising, IsUnused, Kind, List, LowerFlags, MayGrantFast, MayDismiss, MayName, MissLatch, RaiseFlags, ReadWord, StandThere, StepKind, [], admitting, after_first, all_modes, any_obtrusive, ap, are_apart, are_two, booked, can_be_granted, change_fault, changed, changing, empty_book, filter, granted_fast, has_obtrusive, has_tickets, dismissed, is_at_least, is_key_known, is_known, is_lawful, is_obtrusive, is_ready, key_known, kind_known, latched, learnt, list_all, may_stand, missed_fast, missed_latch, named, next_grantable, noting, option_and_then, option_map, option_to_list, place_known, raised, recorded_key, served, some-injective, some-ne-none, stepped, table_at, ℕ}
 pub use Rattle.mdl_visits.specs.Words.{AllMiss, AllQuiet, AreAllTables, AreListed, Asked, Audited, Does, Enters, FitsAt, Gathers, GrantsAtLast, GrantsFast, HadEither, HadLatches, HasAsked, HasLooked, HasNamed, HasStep, HasTicket, HoldsNoLatch, IsAddedToDirectory, IsBuiltOf, IsDirectoryTable, IsGrantableAt, IsInside, IsLookupAnswer, IsLowered, IsNext, IsOrderlyLatch, IsQuiet, IsVisit, IsWithinVisit, Learns, Leaves, LeavesBy, MakesMoreSteps, MakesQuietSteps, MakesSteps, MayRise, MayTakeAll, MayVisit, Misses, MissesAfter, MissesFew, PutsBack, ReadsWaits, ReadsWaitsQuietly, ResolveError, StaysHere, StaysOn, StaysQuiet, StaysThere, StaysWithin, TakesDirectory, TakesLatch, TookDirectory, Visits, VisitsAndReschedules, WaitRead, WasAsked, ahead_of, and_made, books_of, deeds_of, defined_places, gives_back, is_ask_apart, is_no_number, kind_raises_flags, knowing_key, last_found, numbered, raises_obtrusive, relisted, settled_by, with_fast, with_waits_read}

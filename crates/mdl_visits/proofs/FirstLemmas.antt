@@ -5,13 +5,13 @@ pub use Rattle.mdl_graph.proofs.DeadlockLemmas.{deadlock_chosen, graph_finds}
 pub use Rattle.mdl_system.proofs.MemberLemmas.{Contains-map_from, Contains-none}
 pub use Rattle.mdl_system.proofs.OrderLemmas.{Contains-cons_cases, middle}
 pub use Rattle.mdl_visits.proofs.Asking.{asked_after, asked_more, goes_nowhere, goes_on, step_within}
-pub use Rattle.mdl_visits.proofs.Common.{AddsBook, All-contains, All-nil, All-push, All-weaker, AllQuiet, Alter, Any-from_list_any, AreAllTables, Ask, AtItsTable, Audited, BookError, BookView, Contains-append_cases, Contains-append_left, Contains-push, Deed, Each, Enters, FitsAt, Flagged, Gain, Gathers, GraphView, HadEither, HadLatches, HasDirectory, HasStep, HasTicket, Holds, HoldsNoLatch, IsAtLeast, IsBuiltOf, IsFresh, IsGrantableAt, IsGraphOf, IsInside, IsLowered, IsPlace, IsQuiet, IsRising, IsStepOf, IsVisit, KeyName, Keys, Kind, KnownKey, LatchRecord, Learns, LowerFlags, MakesMoreSteps, MakesSteps, MayInform, MayJoin, MayPut, MayRise, MayVisit, Member, Mine, MissLatch, Mode, NotWaited, Once, PutLatch, RaiseFlags, ReadWord, ReadsWaits, ReadsWaitsQuietly, Refuses, RefusesJust, SeatState, SessionTicket, StandThere, StaysHere, StaysOn, StaysQuiet, StaysThere, StaysWithin, StepKind, StepRecord, TableId, TakeLatch, TakesDirectory, TakesLatch, TellsLists, Ticket, TookDirectory, VersionedDefinition, View, Visits, VisitsAndReschedules, WaitRead, admitting, ahead_of, all_done, and_false, and_from, and_made, and_parts, any_obtrusive, booked, books_of, by_bool, can_be_granted, cases_eq, change_fault, changed, consulted, count-append, count_by-le-length, covers, covers-at_least, deeds_of, downgrade-listed, drop_more, each_at, elsewhere, elsewhere-redefined, elsewhere-settled, elsewhere-stepped, false≢true, filter, find-append, find-contains, find_at, gives_back, held_at, held_at-changed, held_at-first, held_at-past, holds_written, informed, is_ask_apart, is_compatible, is_mode_of, is_obtrusive, is_passed, is_ready, is_ticket, key_at, kind_of, kind_raises_flags, latch_word, latched, learnt, length_mapped, list_all-append, list_any, list_any-append, list_any-from_Any, lock_kind, lock_word, map-append, map_more, may_downgrade, may_stand, may_stand-none, missed_latch, nat_cmp, nat_cmp_total, nat_tests, next_grantable, nobody, noting, numbered, of-mode_other, of_other_number, once-without, one_counted, option_map, or_right, other, own_at, raised, rest, served, settled_by, stepped, take_more, ticket_by, ticket_of, unlatched, unsigned_tied, victim_in, victim_of, with_admitted, with_mode, with_waits_read, without, without-hit, without-miss, written}
+pub use Rattle.mdl_visits.proofs.Common.{AddsBook, All-contains, All-nil, All-push, All-weaker, AllQuiet, Alter, Any-from_list_any, AreAllTables, Ask, AtItsTable, Audited, BookError, BookView, Contains-append_cases, Contains-append_left, Contains-push, Deed, Each, Enters, FitsAt, Flagged, Gain, Gathers, GraphView, HadEither, HadLatches, HasDirectory, HasStep, HasTicket, Holds, HoldsNoLatch, IsAtLeast, IsBuiltOf, IsFresh, IsGrantableAt, IsGraphOf, IsInside, IsLowered, IsPlace, IsQuiet, IsRising, IsStepOf, IsVisit, KeyName, Keys, Kind, KnownKey, LatchRecord, Learns, LowerFlags, MakesMoreSteps, MakesSteps, MayDismiss, MayJoin, MayPut, MayRise, MayVisit, Member, Mine, MissLatch, Mode, NotWaited, Once, PutLatch, RaiseFlags, ReadWord, ReadsWaits, ReadsWaitsQuietly, Refuses, RefusesJust, SeatState, SessionTicket, StandThere, StaysHere, StaysOn, StaysQuiet, StaysThere, StaysWithin, StepKind, StepRecord, TableId, TakeLatch, TakesDirectory, TakesLatch, TellsLists, Ticket, TookDirectory, VersionedDefinition, View, Visits, VisitsAndReschedules, WaitRead, admitting, ahead_of, all_done, and_false, and_from, and_made, and_parts, any_obtrusive, booked, books_of, by_bool, can_be_granted, cases_eq, change_fault, changed, consulted, count-append, count_by-le-length, covers, covers-at_least, deeds_of, downgrade-listed, drop_more, each_at, elsewhere, elsewhere-redefined, elsewhere-settled, elsewhere-stepped, false≢true, filter, find-append, find-contains, find_at, gives_back, held_at, held_at-changed, held_at-first, held_at-past, holds_written, dismissed, is_ask_apart, is_compatible, is_mode_of, is_obtrusive, is_passed, is_ready, is_ticket, key_at, kind_of, kind_raises_flags, latch_word, latched, learnt, length_mapped, list_all-append, list_any, list_any-append, list_any-from_Any, lock_kind, lock_word, map-append, map_more, may_downgrade, may_stand, may_stand-none, missed_latch, nat_cmp, nat_cmp_total, nat_tests, next_grantable, nobody, noting, numbered, of-mode_other, of_other_number, once-without, one_counted, option_map, or_right, other, own_at, raised, rest, served, settled_by, stepped, take_more, ticket_by, ticket_of, unlatched, unsigned_tied, victim_in, victim_of, with_admitted, with_mode, with_waits_read, without, without-hit, without-miss, written}
 pub use Rattle.mdl_visits.proofs.Covered.{IsCovered, altered, altered_flagged, covered_by, covered_by_own, downgrade-covered, fits_lock, gained_flagged, own_mode, own_there, stands}
 pub use Rattle.mdl_visits.proofs.Deadlocks.{built_of_more, built_of_none, none_settled, passed_open, put_settled, victim_same}
 pub use Rattle.mdl_visits.proofs.Gathering.{as_reads, as_steps, back, back_steps, carried_there, gathers_more, holds_there, may_put, may_take_more, no_steps, quiet_steps_on}
 unfoldable pub use Rattle.mdl_visits.proofs.Gathering.{gathers_none}
 pub use Rattle.mdl_visits.proofs.Leaving.{first_step, leaves, needed, own_found, puts_back, step_later, visits_left}
-pub use Rattle.mdl_visits.proofs.Lookups.{answered, found_nowhere, found_there, had_none, has_taken, idle_then, knows_nothing, knows_one, looked, may_inform_looked, no_latches, no_record, some_there, stands_next}
+pub use Rattle.mdl_visits.proofs.Lookups.{found_answer, found_idle, found_knows, found_nowhere, found_there, had_none, has_left, has_taken, looked, may_dismiss_looked, no_hand, no_idle, no_latches, no_record, refused_answer, refused_idle, refused_nothing, some_there, stands_next, unpinned_yet}
 pub use Rattle.mdl_visits.proofs.Numbers.{has_number, idle_waits_not, not_waited}
 pub use Rattle.mdl_visits.proofs.Seats.{mine, place_there, table_of}
 pub use Rattle.mdl_visits.proofs.Steps.{does_then, each_append, each_map, goes_by, goes_none, goes_staying, leaves_after, none_then, quiet_on, quiet_one, quiet_taken, step_after, step_before}

@@ -11,9 +11,9 @@ use Rattle.mdl_visits.proofs.Gathering.{back_steps, gives_back, as_reads, no_ste
 use Rattle.mdl_visits.proofs.Lookups.{in_use_more, unused_more}
 use Rattle.mdl_visits.proofs.Seats.{mine, table_of}
 use Rattle.mdl_visits.proofs.Steps.{each_append, each_map, none_then}
-use Rattle.mdl_visits.specs.FirstWords.{exchanging, is_pinned, pins_word, rest}
+use Rattle.mdl_visits.specs.FirstWords.{ReadVersion, exchanging, is_pinned, pins_word, rest, version_word}
 use Rattle.mdl_visits.specs.Lookups.{AreInUse, HasGiven, HoldsKeys, IsUsed, MayGiveAnew, MeetsUse, PassesOver, TakesUnused, WasInUse, WasUnused, and_idle}
-use Rattle.mdl_visits.specs.Prelude.{MayRename, ReadPins, met_pins, renamed}
+use Rattle.mdl_visits.specs.Prelude.{MayRename, ReadPins, met_pins, met_version, renamed}
 use Rattle.mdl_visits.specs.declared.resolve_error.ResolveError.TheVariants.{NoPlace, OutOfMemory}
 
 -- ---- lists
@@ -48,46 +48,71 @@ module _ (place found : ℕ) (a b : SeatState) (read : b ≡ record a { me = met
     now = mine read ∙ (λ i. (record a.me.0 { log = a.me.0.log ++ look ∷ []; idle = (sym (mine read) i).0.idle }, a.me.1));
     quiet = ((refl, refl), tt);
     did = refl;
-    use = (look, Contains-here look [], inl (refl, refl, some));
+    shows = (look, Contains-here look [], inl (refl, refl, some));
   }
 
   -- none does
   module _ (k : Keys) (directory : a.me.0.directory ≡ Some k) (none : found ≡ 0) where
-    pub unpinned_there : b.me ≡ and_idle (look ∷ []) (Some place) a.me
+    unpinned_there : b.me ≡ and_idle (look ∷ []) (Some place) a.me
     unpinned_there = mine read ∙ rw (directory, none) refl
 
-    -- the latch is taken
-    module _ (q : ℕ) (c : SeatState) (at : q ≡ place) (taken : TakesLatch place b.me c.me) where
-      pub may_give : taken.0.book.standing.version ≡ 0 → TakesUnused place a.me c.me
-      may_give zero_ =
-          let fresh : IsFresh place taken.0 (and_idle (look ∷ []) (Some place) a.me) = subst (IsFresh place taken.0) unpinned_there taken.1 in record {
-            made = look ∷ taken.3.0;
-            latch = taken.0;
-            fresh = fresh_as place taken.0 (and_idle (look ∷ []) (Some place) a.me) (a.me.0.log ++ look ∷ taken.3.0) fresh;
-            now = taken.3.1 ∙ ap (λ (m : Mine). latched place taken.0 (and_made taken.3.0 m)) unpinned_there
-                ∙ (λ i. latched place taken.0 (record a.me.0 { log = append_assoc a.me.0.log (look ∷ []) taken.3.0 i; idle = Some place }, a.me.1));
-            quiet = ((refl, refl), subst (λ (m : Mine). AllQuiet m.0.directory taken.3.0) unpinned_there taken.3.2);
-            did = taken.3.3;
-            unpinned = (look, Contains-here look taken.3.0, refl, refl, none);
-            unversioned = zero_;
-          }
+    -- and the version is looked at
+    module _ (version : ℕ) (c : SeatState) (peeked : c ≡ record b { me = met_version place version b.me }) where
+      abbrev glance : StepRecord
+      glance = record { kind = ReadVersion; deeds = []; word = version_word place; found = version; held = a.me.0.latches; directory = a.me.0.directory }
 
-      -- a definition stands there, or stood, and the latch is given back
-      pub versioned_there : c.table ≡ b.table → (d e : SeatState) → d ≡ c → e ≡ record d { me = unlatched q [] d.me } → IsRising place b.me → taken.0.book.standing.version ≢ 0
-          → IsUsed place a.me e.me
-      versioned_there table d e same put rising some =
-          let went = back_steps place q b c d at taken table same d (as_reads d d (refl, no_steps d.me)) e put rising refl refl in
-          let gave : StepRecord = record { kind = PutLatch; deeds = []; word = latch_word place; found = b.me.0.number; held = taken.0 ∷ b.me.0.latches; directory = b.me.0.directory } in
-          let shown = gives_back place q b c d at taken table same d (as_reads d d (refl, no_steps d.me)) e put rising
-          (λ (x : StepRecord). MeetsUse place x) (inr (taken.0, refl, refl, held_at-first place taken.0 b.me.0.latches taken.1.here, some)) in
-          let made : List StepRecord = went.1.0 in record {
-            made = look ∷ made;
-            idle = Some place;
-            now = went.1.1 ∙ ap (and_made made) unpinned_there ∙ (λ i. (record a.me.0 { log = append_assoc a.me.0.log (look ∷ []) made i; idle = Some place }, a.me.1));
-            quiet = ((refl, refl), subst (λ (m : Mine). AllQuiet m.0.directory made) unpinned_there went.1.3);
-            did = went.1.2;
-            use = (shown.0, Contains-later look made shown.0 (among_made b.me e.me made (ap (λ (m : Mine). m.0.log) went.1.1) shown.0 shown.1), shown.2);
-          }
+      abbrev seen : List StepRecord
+      seen = look ∷ glance ∷ []
+
+      pub seen_there : c.me ≡ and_idle seen (Some place) a.me
+      seen_there = mine peeked ∙ ap (met_version place version) unpinned_there ∙ (λ i. (record a.me.0 { log = append_assoc a.me.0.log (look ∷ []) (glance ∷ []) i; idle = Some place }, a.me.1))
+
+      -- a definition stands there, or stood
+      pub defined_there : version ≢ 0 → IsUsed place a.me c.me
+      defined_there some = record {
+        made = seen;
+        idle = Some place;
+        now = seen_there;
+        quiet = ((refl, refl), (refl, refl), tt);
+        did = refl;
+        shows = (glance, Contains-later look (glance ∷ []) glance (Contains-here glance []), inr (inl (refl, refl, some)));
+      }
+
+      -- otherwise the latch is taken
+      module _ (q : ℕ) (d : SeatState) (at : q ≡ place) (taken : TakesLatch place c.me d.me) where
+        pub may_give : taken.0.book.standing.version ≡ 0 → TakesUnused place a.me d.me
+        may_give zero_ =
+            let fresh : IsFresh place taken.0 (and_idle seen (Some place) a.me) = subst (IsFresh place taken.0) seen_there taken.1 in record {
+              made = seen ++ taken.3.0;
+              latch = taken.0;
+              fresh = fresh_as place taken.0 (and_idle seen (Some place) a.me) (a.me.0.log ++ (seen ++ taken.3.0)) fresh;
+              now = taken.3.1 ∙ ap (λ (m : Mine). latched place taken.0 (and_made taken.3.0 m)) seen_there
+                  ∙ (λ i. latched place taken.0 (record a.me.0 { log = append_assoc a.me.0.log seen taken.3.0 i; idle = Some place }, a.me.1));
+              quiet = ((refl, refl), (refl, refl), subst (λ (m : Mine). AllQuiet m.0.directory taken.3.0) seen_there taken.3.2);
+              did = taken.3.3;
+              unpinned = (look, Contains-here look (glance ∷ taken.3.0), refl, refl, none);
+              unversioned = zero_;
+            }
+
+        -- the version was written after it was looked at, and the latch is given back
+        pub versioned_there : d.table ≡ c.table → (e f : SeatState) → e ≡ d → f ≡ record e { me = unlatched q [] e.me } → IsRising place c.me → taken.0.book.standing.version ≢ 0
+            → IsUsed place a.me f.me
+        versioned_there table e f same put rising some =
+            let went = back_steps place q c d e at taken table same e (as_reads e e (refl, no_steps e.me)) f put rising refl refl in
+            let shown = gives_back place q c d e at taken table same e (as_reads e e (refl, no_steps e.me)) f put rising
+            (λ (x : StepRecord). MeetsUse place x) (inr (inr (taken.0, refl, refl, held_at-first place taken.0 c.me.0.latches taken.1.here, some))) in
+            let made : List StepRecord = went.1.0 in record {
+              made = seen ++ made;
+              idle = Some place;
+              now = went.1.1 ∙ ap (and_made made) seen_there ∙ (λ i. (record a.me.0 { log = append_assoc a.me.0.log seen made i; idle = Some place }, a.me.1));
+              quiet = ((refl, refl), (refl, refl), subst (λ (m : Mine). AllQuiet m.0.directory made) seen_there went.1.3);
+              did = went.1.2;
+              shows = (
+                shown.0,
+                Contains-append_right seen made shown.0 (among_made c.me f.me made (ap (λ (m : Mine). m.0.log) went.1.1) shown.0 shown.1),
+                shown.2,
+              );
+            }
 
 -- ---- one place after the other
 
@@ -113,7 +138,7 @@ passes_one place a b c over used =
       did = none_then over.made used.made [] over.did used.did;
       uses = λ p some below. elim (nat_told p place) [
         | inl here ↦ subst (λ (n : ℕ). WasInUse n (over.made ++ used.made)) (sym here)
-            (used.use.0, Contains-append_right over.made used.made used.use.0 used.use.1, used.use.2)
+            (used.shows.0, Contains-append_right over.made used.made used.shows.0 used.shows.1, used.shows.2)
         | inr else ↦ in_use_more place over.made used.made over.uses p some (omega arith)
       ];
     }

@@ -1,6 +1,6 @@
 -- Something is done while the directory's latch is held: the books of all keys are gathered, and a deadlock is looked for.
 use Rattle.std.proofs.Common.{◌≡◌, ℕ, ◌+◌, ◌-◌, List, [], ◌∷◌, ◌++◌, length, map, Some, Result, refl, sym, ap, ◌∙◌, subst, inl, ⊎_elim, arith, append_assoc, append-nil, length-append, slice_get}
-use Rattle.mdl_visits.proofs.FirstLemmas.{AddsBook, AreKeyed, AreRecorded, AtItsTable, Audited, Audits, EndsSearch, FindsFrom, Gathers, GraphView, HadEither, HadLatches, HasDirectory, HoldsNoLatch, IfOk-weaker, IsBuiltOf, IsQuiet, IsRising, IsStepOf, Judges, KeyName, Keys, KnowsVictim, LatchRecord, MakesMoreSteps, MakesSteps, MayAllStand, MayInform, Mine, PutLatch, ReadsWaits, ReadsWaitsQuietly, Search, SearchFinds, Searched, Searches, SeatState, StepRecord, TableId, TakeLatch, TakesDirectory, TakesLatch, TookDirectory, and_made, as_steps, back, built_of_more, consulted, each_map, gathers_more, gathers_none, had_none, informed, latch_word, latched, learnt, mine, no_record, none_then, on_err_weaker, step_within, table_of, unlatched, with_waits_read}
+use Rattle.mdl_visits.proofs.FirstLemmas.{AddsBook, AreKeyed, AreRecorded, AtItsTable, Audited, Audits, EndsSearch, FindsFrom, Gathers, GraphView, HadEither, HadLatches, HasDirectory, HoldsNoLatch, IfOk-weaker, IsBuiltOf, IsQuiet, IsRising, IsStepOf, Judges, KeyName, Keys, KnowsVictim, LatchRecord, MakesMoreSteps, MakesSteps, MayAllStand, MayDismiss, Mine, PutLatch, ReadsWaits, ReadsWaitsQuietly, Search, SearchFinds, Searched, Searches, SeatState, StepRecord, TableId, TakeLatch, TakesDirectory, TakesLatch, TookDirectory, and_made, as_steps, back, built_of_more, consulted, each_map, gathers_more, gathers_none, had_none, dismissed, latch_word, latched, mine, no_idle, no_record, none_then, on_err_weaker, step_within, table_of, unlatched, with_waits_read}
 use Rattle.mdl_visits.proofs.Outcomes.{judges_within, knows_on}
 
 -- ---- the keys of the books
@@ -43,10 +43,10 @@ module _ (a b c : SeatState) (taken : TakesDirectory a b) (same : c ≡ b) (idle
     abbrev within : List StepRecord
     within = reads.1.reads.made
 
-    pub may_inform : MayInform d.me
-    may_inform = (k, subst (HasDirectory k) (sym (reads.1.reads.now ∙ ap (with_waits_read within reads.1.reads.told reads.1.reads.settles) came)) (record { recorded = refl; carried = refl }))
+    pub may_dismiss : MayDismiss d.me
+    may_dismiss = (k, subst (HasDirectory k) (sym (reads.1.reads.now ∙ ap (with_waits_read within reads.1.reads.told reads.1.reads.settles) came)) (record { recorded = refl; carried = refl }))
 
-    module _ (e : SeatState) (put : e ≡ record d { me = informed (learnt d.me 0) d.me }) where
+    module _ (e : SeatState) (put : e ≡ record d { me = dismissed d.me }) where
       abbrev first : StepRecord
       first = record { kind = TakeLatch; deeds = []; word = latch_word 0; found = 0; held = a.me.0.latches; directory = Some k }
 
@@ -61,8 +61,8 @@ module _ (a b c : SeatState) (taken : TakesDirectory a b) (same : c ≡ b) (idle
 
       now : e.me ≡ with_waits_read all reads.1.reads.told reads.1.reads.settles a.me
       now = mine put
-          ∙ ap (λ (m : Mine). informed (learnt m 0) m) (reads.1.reads.now ∙ ap (with_waits_read within reads.1.reads.told reads.1.reads.settles) came)
-          ∙ (λ i. (record a.me.0 { log = joined i; told = reads.1.reads.told; settles = reads.1.reads.settles; directory = no_record a.me.0.directory idle.1 i; known = append-nil a.me.0.known i }, a.me.1))
+          ∙ ap dismissed (reads.1.reads.now ∙ ap (with_waits_read within reads.1.reads.told reads.1.reads.settles) came)
+          ∙ (λ i. (record a.me.0 { log = joined i; told = reads.1.reads.told; settles = reads.1.reads.settles; directory = no_record a.me.0.directory idle.1 i; idle = no_idle a.me.0.idle idle.3 i }, a.me.1))
 
       pub reads_all : AtItsTable a e ReadsWaits
       reads_all = (
@@ -195,7 +195,7 @@ finds_here place last graph a b found behind finds = (
 )
 
 -- what was found once all latches were taken is what is found
-pub searched : (a b c d e : SeatState) (taken : TakesDirectory a b) (same : c ≡ b) (idle : HoldsNoLatch a.me) (reads : AtItsTable c d ReadsWaitsQuietly) (put : e ≡ record d { me = informed (learnt d.me 0) d.me })
+pub searched : (a b c d e : SeatState) (taken : TakesDirectory a b) (same : c ≡ b) (idle : HoldsNoLatch a.me) (reads : AtItsTable c d ReadsWaitsQuietly) (put : e ≡ record d { me = dismissed d.me })
     (last : ℕ) → last ≡ length taken.1.keys → (graph : GraphView) → IsBuiltOf [] graph → (found : Search) → FindsFrom 1 last graph c d found
     → Searched a.table a.me.0.number taken.1 found a.me e.me × KnowsVictim a.me.0.number found e.me
 searched a b c d e taken same idle reads put last count graph built found finds =

@@ -54,7 +54,7 @@ some_there (x ∷ xs) (suc i) key e = let next = some_there xs i key e in omega 
 -- ---- the place of a key that the session doesn't know
 
 -- the directory has it at this place
-abbrev IsThere : List KeyName → KnownKey → Type 0
+abbrev pub IsThere : List KeyName → KnownKey → Type 0
 IsThere keys x = (0 < x.place) × (key_at keys x.place ≡ Some x.key)
 
 -- a place that is known is that of its key in the directory
@@ -137,7 +137,7 @@ stands_next key place k a b named none next fit =
 
 -- what was met is met by more steps, too
 pub in_use_more : (most : ℕ) (made more : List StepRecord) → AreInUse most made → AreInUse most (made ++ more)
-in_use_more most made more uses place some below = (let use = uses place some below in (use.0, Contains-append_left made more use.0 use.1, use.2))
+in_use_more most made more uses place some below = (let met = uses place some below in (met.0, Contains-append_left made more met.0 met.1, met.2))
 
 pub unused_more : (place : ℕ) (made more : List StepRecord) → WasUnused place made → WasUnused place (made ++ more)
 unused_more place made more unused =
@@ -161,10 +161,10 @@ answer_more slots key k left made more (Err OutOfMemory) (none, same, inr some) 
 -- ---- the directory's latch is given back
 
 -- what is learnt of a record
-abbrev learning : Keys → ℕ → List KnownKey
+abbrev pub learning : Keys → ℕ → List KnownKey
 learning k place = option_to_list (option_map (λ key. record { key = key; place = place }) (recorded_key (Some k) place))
 
-learning_one : (k : Keys) (place : ℕ) (key : KeyName) → 0 < place → key_at k.keys place ≡ Some key → learning k place ≡ record { key = key; place = place } ∷ []
+pub learning_one : (k : Keys) (place : ℕ) (key : KeyName) → 0 < place → key_at k.keys place ≡ Some key → learning k place ≡ record { key = key; place = place } ∷ []
 learning_one k place key some e = rw (lt-ltb 0 place some) (ap (λ (o : Option KeyName). option_to_list (option_map {T = KeyName} {U = KnownKey} (λ x. record { key = x; place = place }) o)) e)
 
 module _ (a b : SeatState) (taken : TakesDirectory a b) where

@@ -2,7 +2,7 @@
 use Rattle.std.proofs.Common.{◌≡◌, ℕ, ◌+◌, ◌-◌, ◌<◌, ◌≤◌, ◌==◌, ◌&&◌, ◌||◌, nat_lt, not, Bool, true, false, List, [], ◌∷◌, ◌++◌, length, map, None, Some, inl, inr, refl, sym, ap, ◌∙◌, subst, arith, Contains, MatchOption, Result, Ok, Err, IfOk, eqb-true}
 use Rattle.mdl_graph.specs.Cycles.{IsCycleThrough, are_distinct, leads}
 use Rattle.mdl_graph.specs.GraphLaws.{IsChosen, IsFree}
-use Rattle.mdl_visits.proofs.FirstLemmas.{AddsBook, All-contains, Any-from_list_any, AtItsTable, Audited, BookView, Contains-append_left, Contains-cons_cases, Contains-map_from, Contains-none, Contains-push, EndsSearch, FindsFrom, GraphView, HasTaken, HoldsNoLatch, IsGraphOf, IsOutcome, Judges, Keys, KnownKey, KnowsPlace, LatchRecord, MayInform, MayPut, Mine, NoCycle, ReadsWaitsQuietly, Search, SearchFinds, Searched, SeatState, SeesNoDeadlock, SessionTest, StepRecord, TakesDirectory, TakesLatch, TookDirectory, Victim, WaitRead, WasMetNow, WasRead, and_from, and_parts, books_of, but_searching, by_bool, cases_eq, deadlock_chosen, deadlock_in, each_at, found_none, held_at, held_at-first, held_at-past, informed, key_at, learnt, list_any, list_any-from_Any, middle, mine, nat_tests, no_latches, nobody, put_searching, searches_after, settled_by, settled_in, some_there, unsettled_state, wait_state, wait_word, waits_at, waits_for}
+use Rattle.mdl_visits.proofs.FirstLemmas.{AddsBook, All-contains, Any-from_list_any, AtItsTable, Audited, BookView, Contains-append_left, Contains-cons_cases, Contains-map_from, Contains-none, Contains-push, EndsSearch, FindsFrom, GraphView, HasTaken, HoldsNoLatch, IsGraphOf, IsOutcome, Judges, Keys, KnownKey, KnowsPlace, LatchRecord, MayDismiss, MayPut, Mine, NoCycle, ReadsWaitsQuietly, Search, SearchFinds, Searched, SeatState, SeesNoDeadlock, SessionTest, StepRecord, TakesDirectory, TakesLatch, TookDirectory, Victim, WaitRead, WasMetNow, WasRead, and_from, and_parts, books_of, but_searching, by_bool, cases_eq, deadlock_chosen, deadlock_in, each_at, found_none, held_at, held_at-first, held_at-past, dismissed, key_at, list_any, list_any-from_Any, middle, mine, nat_tests, no_latches, nobody, put_searching, searches_after, settled_by, settled_in, some_there, unsettled_state, wait_state, wait_word, waits_at, waits_for}
 
 -- ---- the seat, except for its search
 
@@ -24,18 +24,18 @@ may_put_still place c d may = (
   may.4,
 )
 
-pub may_inform_still : (c d : SeatState) → MayInform (but_searching c d).me → MayInform d.me
-may_inform_still c d may = (may.0, record { recorded = may.1.recorded; carried = may.1.carried })
+pub may_dismiss_still : (c d : SeatState) → MayDismiss (but_searching c d).me → MayDismiss d.me
+may_dismiss_still c d may = (may.0, record { recorded = may.1.recorded; carried = may.1.carried })
 
 -- giving a latch back is as ever then
 pub put_still : (q : ℕ) (searches : Bool) (a c d e : SeatState) → a.me.0.searches ≡ c.me.0.searches → e ≡ record d { me = put_searching q searches d.me }
     → but_searching a e ≡ record (but_searching c d) { me = put_searching q (but_searching c d).me.0.searches (but_searching c d).me }
 put_still q searches a c d e same put = ap (but_searching a) put ∙ (λ i. record d { me = put_searching q (same i) d.me })
 
-pub informed_still : (a c d e : SeatState) → a.me.0.searches ≡ c.me.0.searches → e ≡ record d { me = informed (learnt d.me 0) d.me }
-    → but_searching a e ≡ record (but_searching c d) { me = informed (learnt (but_searching c d).me 0) (but_searching c d).me }
-informed_still a c d e same put = ap (but_searching a) put
-    ∙ (λ i. record d { me = informed (learnt d.me 0) (record d.me.0 { searches = same i }, d.me.1) })
+pub dismissed_still : (a c d e : SeatState) → a.me.0.searches ≡ c.me.0.searches → e ≡ record d { me = dismissed d.me }
+    → but_searching a e ≡ record (but_searching c d) { me = dismissed (but_searching c d).me }
+dismissed_still a c d e same put = ap (but_searching a) put
+    ∙ (λ i. record d { me = dismissed (record d.me.0 { searches = same i }, d.me.1) })
 
 -- what was found by steps of the session was found whether it has yet to search or not
 pub judges_still : (a e : SeatState) (who : ℕ) (latches : List LatchRecord) (audited : List Audited) (found : Search)

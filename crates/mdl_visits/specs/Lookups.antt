@@ -1,7 +1,7 @@
 -- What a session meets as it looks a key's place up, and what it knows then.
 use Rattle.std.specs.Prelude.{◌≡◌, ◌≢◌, ℕ, ◌+◌, ◌<◌, ◌≤◌, ◌⊎◌, false, List, ◌∷◌, [], ◌++◌, length, Contains, Option, Some, None, Result, Ok, Err, IfOk}
 use Rattle.mdl_steps.specs.declared.slot.Slot.TheVariants as slot
-use Rattle.mdl_visits.specs.FirstWords.{AllQuiet, Each, HasDirectory, IsDirectory, IsFresh, IsPlace, IsQuiet, KeyName, Keys, KnownKey, KnowsKeys, LatchRecord, MakesSteps, Mine, NoPlace, PutLatch, ReadPins, ResolveError, SeatState, StepRecord, and_made, consulted, deeds_of, exchanging, held_at, is_key_known, is_pinned, key_at, latch_word, latched, listing, pins_word, place_among, rest}
+use Rattle.mdl_visits.specs.FirstWords.{AllQuiet, Each, HasDirectory, IsDirectory, IsFresh, IsPlace, IsQuiet, KeyName, Keys, KnownKey, KnowsKeys, LatchRecord, MakesSteps, Mine, NoPlace, PutLatch, ReadPins, ReadVersion, ResolveError, SeatState, StepRecord, and_made, consulted, deeds_of, exchanging, held_at, is_key_known, is_pinned, key_at, latch_word, latched, listing, pins_word, place_among, rest, version_word}
 use Rattle.mdl_visits.specs.declared.resolve_error.ResolveError.TheVariants.{OutOfMemory}
 
 -- what a session has, with one more key that it knows
@@ -39,11 +39,12 @@ AsksDirectory s s′ IsSo = (k : Keys) × TookDirectory s.table.slots k k s.me s
 
 -- ---- places that are in use
 
--- a step that met a place in use: some session pinned it, or, by the record of its latch, its version wasn't 0
+-- a step that met a place in use: some session pinned it, or its version wasn't 0, by the word or by the record of its latch
 abbrev pub MeetsUse : ℕ → StepRecord → Type 0
 MeetsUse place e =
     ((e.kind ≡ ReadPins) × (e.word ≡ pins_word place) × (e.found ≢ 0))
-    ⊎ ((latch : LatchRecord) × (e.kind ≡ PutLatch) × (e.word ≡ latch_word place) × (held_at place e.held ≡ Some latch) × (latch.book.standing.version ≢ 0))
+    ⊎ (((e.kind ≡ ReadVersion) × (e.word ≡ version_word place) × (e.found ≢ 0))
+    ⊎ ((latch : LatchRecord) × (e.kind ≡ PutLatch) × (e.word ≡ latch_word place) × (held_at place e.held ≡ Some latch) × (latch.book.standing.version ≢ 0)))
 
 -- one of these steps met the place in use
 abbrev pub WasInUse : ℕ → List StepRecord → Type 0
@@ -143,7 +144,7 @@ pub record IsUsed (place : ℕ) (m m′ : Mine) : Type 0 where
   pub now : m′ ≡ and_idle made idle m
   pub quiet : AllQuiet m.0.directory made
   pub did : deeds_of made ≡ []
-  pub use : WasInUse place made
+  pub shows : WasInUse place made
 
 -- the latch of a place was taken that the session found unpinned. By its record the version there is 0. Nothing else changed
 pub record TakesUnused (place : ℕ) (m m′ : Mine) : Type 0 where

@@ -14,10 +14,10 @@ pub use Rattle.mdl_key.specs.Words.{IsAtLeast, KeyName, all_modes, is_at_least, 
 pub use Rattle.mdl_key.specs.declared.known_key.KnownKey.{KnownKey}
 pub use Rattle.mdl_key.specs.declared.mode.Mode.{Mode}
 pub use Rattle.mdl_key.specs.declared.namespace.Kind.{Kind}
-pub use Rattle.mdl_steps.specs.Words.{ArePassedOver, AtItsTable, Distinct, Each, Flagged, Follows, ForgetsNobody, FreesNothing, HasBookInHand, HasDirectory, HasDone, HasExclusive, HasNothingAt, HasRedefined, Holds, IsDirectory, IsFresh, IsLookedThrough, IsLost, IsPlace, IsRising, IsSession, IsStepOf, IsUnpinned, IsUnused, KnowsKeys, KnowsPlace, Lawful, MayBeGranted, MayCancel, MayDismiss, MayDo, MayGrantFast, MayJoin, MayMaterialise, MayName, MayOpen, MayPin, MayPut, MayRename, MayServe, MayUnpin, MeetsWaiter, Mine, NotWaited, NotedCounts, OfBook, Once, OnlyMeets, SeatState, SeesNoDeadlock, StandThere, TellsLists, TellsOwn, WasMetNow, WasSettled, all_booked, all_done, asked_ticket, asking, booked, but_at, but_known, but_own, changed, consulted, dismissed, dropped, elsewhere, ended_lost, exchanging, fast_own, flags_lowered, frees, granted_fast, granted_state, granting_all, held_at, idle_state, interleaved, is_key_known, is_pinned, is_table_of, key_at, latch_word, latched, learnt, listing, lock_word, logged, lost_state, lowered, materialised, meeting, met_pins, met_wait, met_wait_by, missed_fast, missed_latch, missed_wait, most_fast, moved, named, noting, noting_version, opened, owing, own_at, pinned_at, pins_word, place_among, raised, read_and_put, recorded_key, redefined, renamed, restood, served, settled_granted, settled_in, settled_lost, stepped, table_at, tables_from, ticket_by, unknown, unlatched, unpinned_at, unsettled_state, version_word, wait_in, wait_number, wait_state, wait_word, weight_of, with_admitted, with_cancelled, with_granted, with_waiting, written}
+pub use Rattle.mdl_steps.specs.Words.{ArePassedOver, AtItsTable, Distinct, Each, Flagged, Follows, ForgetsNobody, FreesNothing, HasBookInHand, HasDirectory, HasDone, HasExclusive, HasNothingAt, HasRedefined, Holds, IsDirectory, IsFresh, IsLookedThrough, IsLost, IsPlace, IsRising, IsSession, IsStepOf, IsUnpinned, IsUnused, KnowsKeys, KnowsPlace, Lawful, MayBeGranted, MayCancel, MayDismiss, MayDo, MayGrantFast, MayJoin, MayMaterialise, MayName, MayOpen, MayPin, MayPut, MayRename, MayServe, MayUnpin, MeetsWaiter, Mine, NotWaited, NotedCounts, OfBook, Once, OnlyMeets, SeatState, SeesNoDeadlock, StandThere, TellsLists, TellsOwn, WasMetNow, WasSettled, all_booked, all_done, asked_ticket, asking, booked, but_at, but_known, but_own, changed, consulted, dismissed, dropped, elsewhere, ended_lost, exchanging, fast_own, flags_lowered, frees, granted_fast, granted_state, granting_all, held_at, idle_state, interleaved, is_key_known, is_pinned, is_table_of, key_at, latch_word, latched, learnt, listing, lock_word, logged, lost_state, lowered, materialised, meeting, met_pins, met_version, met_wait, met_wait_by, missed_fast, missed_latch, missed_wait, most_fast, moved, named, noting, noting_version, opened, owing, own_at, pinned_at, pins_word, place_among, raised, read_and_put, recorded_key, redefined, renamed, restood, served, settled_granted, settled_in, settled_lost, stepped, table_at, tables_from, ticket_by, unknown, unlatched, unpinned_at, unsettled_state, version_word, wait_in, wait_number, wait_state, wait_word, weight_of, with_admitted, with_cancelled, with_granted, with_waiting, written}
 pub use Rattle.mdl_steps.specs.declared.deed.Deed.{Deed}
 pub use Rattle.mdl_steps.specs.declared.step_kind.StepKind.{StepKind}
-pub use Rattle.mdl_steps.specs.declared.step_kind.StepKind.TheVariants.{EndWait, GrantFast, GrantWait, LowerFlags, Materialise, MissFast, MissLatch, MissWait, OpenWait, Pin, PutLatch, RaiseFlags, ReadPins, ReadWait, ReadWord, ReleaseFast, SettleWait, TakeLatch, Unpin, WriteVersion}
+pub use Rattle.mdl_steps.specs.declared.step_kind.StepKind.TheVariants.{EndWait, GrantFast, GrantWait, LowerFlags, Materialise, MissFast, MissLatch, MissWait, OpenWait, Pin, PutLatch, RaiseFlags, ReadPins, ReadVersion, ReadWait, ReadWord, ReleaseFast, SettleWait, TakeLatch, Unpin, WriteVersion}
 pub use Rattle.mdl_steps.specs.declared.view.Ask.{Ask}
 pub use Rattle.mdl_steps.specs.declared.view.Keys.{Keys}
 pub use Rattle.mdl_steps.specs.declared.view.LatchRecord.{LatchRecord}

@@ -1,7 +1,7 @@
 -- How a session finds the tables of a schema that have a definition: the directory has the tables, and the session looks at the place of each.
-use Rattle.std.specs.Prelude.{◌≡◌, ℕ, ◌+◌, ◌<◌, ◌≤◌, Bool, if◌then◌else◌, true, List, [], ◌∷◌, ◌++◌, length, map, filter, All, AllPairs, Contains, is_some, Some, Vec}
+use Rattle.std.specs.Prelude.{◌≡◌, ℕ, ◌+◌, ◌<◌, ◌≤◌, Bool, if◌then◌else◌, true, List, [], ◌∷◌, ◌++◌, length, map, filter, All, AllPairs, Contains, is_some, Option, Some, Vec}
 use Rattle.std.specs.List.Sorted.{IsPermutation, IsSortedBy}
-use Rattle.mdl_visits.specs.FirstWords.{IsStepOf, Keys, KnownKey, LatchRecord, Less, Mine, PutLatch, StepRecord, held_at, is_lt, is_table_of, key_at, key_cmp, latch_word, tables_from, unknown, vec_capacity, vec_len}
+use Rattle.mdl_visits.specs.FirstWords.{AllQuiet, IsStepOf, Keys, KnownKey, KnowsKeys, LatchRecord, Less, Mine, PutLatch, StandThere, StepRecord, deeds_of, held_at, is_lt, is_table_of, key_at, key_cmp, latch_word, tables_from, unknown, vec_capacity, vec_len}
 use Rattle.mdl_visits.specs.KnownLists.{KnownList}
 
 -- ---- which tables there are
@@ -28,6 +28,22 @@ pub record AreListed (schema : List ℕ) (k : Keys) (tables : List KnownKey) : T
 -- what a session has, with these keys known, too
 abbrev pub knowing_all : List KnownKey → Mine → Mine
 knowing_all tables m = (record m.0 { known = m.0.known ++ unknown m.0.known tables }, m.1)
+
+-- the places of these keys were pinned, by steps at which the session had the same record of the directory: the session knows them, too. Nothing else changed
+pub record PinsPlaces (more : List KnownKey) (m m′ : Mine) : Type 0 where
+  pub made : List StepRecord
+  pub idle : Option ℕ
+  pub now : m′ ≡ (record m.0 { log = m.0.log ++ made; known = m.0.known ++ more; idle = idle }, m.1)
+  pub quiet : AllQuiet m.0.directory made
+  pub did : deeds_of made ≡ []
+
+-- the session may pin the places of these tables, in this order: it has a record of the directory, by which each has its place, and the keys that the session
+-- knows have theirs
+pub record MayPinTables (k : Keys) (tables : List KnownKey) (m : Mine) : Type 0 where
+  pub recorded : m.0.directory ≡ Some k
+  pub known : KnowsKeys k.keys m.0
+  pub stand : StandThere k tables
+  pub in_order : AllPairs (λ (one other : KnownKey). key_cmp one.key other.key ≡ Less) tables
 
 -- each of these keys is at a place of the table
 abbrev pub AreWithin : ℕ → List KnownKey → Type 0

@@ -10,6 +10,6 @@ pub use Rattle.mdl_visits.specs.Materialisings.{AreUngranted, CanStand, LacksRoo
 pub use Rattle.mdl_visits.specs.Readings.{SeatReadsNothing, SeatReadsThere, WasHeld, WereHeld}
 pub use Rattle.mdl_visits.specs.Redefinitions.{HasExclusiveAt, IsChangeRefused, IsNamed, IsRefusedAs, MeetsChangeFault, Redefines, exclusive_fault, redefined_and_put}
 pub use Rattle.mdl_visits.specs.Searches.{AreOfWishes, AreRead, EndsSearch, FindsAtOnce, FindsFrom, HasTaken, IsBuiltOf, IsOutcome, Judges, KnowsVictim, OnlyReadsWaits, ReadsWaits, ReadsWaitsQuietly, SearchFinds, Searched, Searches, SettlesVictim, TriesToSettle, WasOther, WasRead, books_of, but_searching, found_none, put_searching, read_of, searches_after, settled_by, with_waits_read}
-pub use Rattle.mdl_visits.specs.Tables.{AreAllTables, AreListed, AreWithin, Asked, HasAsked, IsDirectoryTable, MeetsDefinition, WasAsked, defined_places, knowing_all}
+pub use Rattle.mdl_visits.specs.Tables.{AreAllTables, AreListed, AreWithin, Asked, HasAsked, IsDirectoryTable, MayPinTables, MeetsDefinition, PinsPlaces, WasAsked, defined_places, knowing_all}
 pub use Rattle.mdl_visits.specs.WaitEndings.{EndsLost, idle, mine_without_wait}
 pub use Rattle.mdl_visits.specs.WaitOpenings.{IsNewWait, MeetsOpening, Opens, SeatBeginsWait, view_awaiting}

@@ -1,5 +1,5 @@
 //! The places of keys.
-ghost use Rattle.std.specs.Prelude.{[], false, length, ◌<◌, ◌≡◌, ◌≤◌, ◌∷◌, IfOk, MatchOption, None, OnOk, OnErr};
+ghost use Rattle.std.specs.Prelude.{[], false, length, ◌+◌, ◌<◌, ◌≡◌, ◌≤◌, ◌∷◌, IfOk, MatchOption, None, OnOk, OnErr};
 ghost use Rattle.mdl_book.specs.Books.{empty_book};
 ghost use Rattle.mdl_book.specs.declared.book_view.BookView.{BookView};
 ghost use Rattle.mdl_steps.specs.declared.slot.Slot.TheVariants as slot;
@@ -127,6 +127,9 @@ fn take_unused<R: Wait>(rt: &R, seat: &mut TableSeat, place: usize) -> Option<La
     ensures unused { MatchOption result (IsUsed place seat.old.me seat.new.me) (λ latch. (latch.place ≡ place) × TakesUnused place seat.old.me seat.new.me) }
 {
     if seat.read_pins(place) != 0 {
+        return None;
+    }
+    if seat.peek_version(place) != 0 {
         return None;
     }
     let latch = await_latch(rt, seat, place);

@@ -7,7 +7,8 @@ ghost use Rattle.mdl_steps.specs.SeatStates.{AtItsTable};
 ghost use Rattle.mdl_steps.specs.Seats.{HasDirectory};
 ghost use Rattle.mdl_visits.specs.Idle.{HoldsNoLatch, MayTakeLatches};
 ghost use Rattle.mdl_visits.specs.Lookups.{TookDirectory};
-ghost use Rattle.mdl_visits.specs.Tables.{AddsIfDefined, AreAllTables, AreListed, AreSorted, AreWithin, HasAsked, HaveRoom, MeetsDefinition, knowing_all};
+ghost use Rattle.mdl_steps.specs.Schemas.{unknown};
+ghost use Rattle.mdl_visits.specs.Tables.{AddsIfDefined, AreAllTables, AreListed, AreSorted, AreWithin, HasAsked, HaveRoom, MayPinTables, MeetsDefinition, PinsPlaces, knowing_all};
 ghost use Rattle.mdl_visits.specs.Visits.{HasStep, MakesQuietSteps, MakesSteps, MayVisit, StaysQuiet};
 
 use crate::KnownKeys;
@@ -18,8 +19,8 @@ use mdl_steps::{LatchedDirectory, TableSeat};
 use std::alloc::{AllocError, Global};
 use std::sync::Wait;
 
-/// Returns the tables of a schema, in the order of their keys, and an empty list with room for all their places. The session knows the
-/// tables from then on, and `known` has room for them.
+/// Returns the tables of a schema, in the order of their keys, and an empty list with room for all their places. The session pins the places
+/// of the tables and knows them from then on, and `known`, which has the keys that the session knew before, has room for them.
 pub fn find_tables<R: Wait>(
     rt: &R,
     seat: &mut TableSeat,
@@ -28,6 +29,7 @@ pub fn find_tables<R: Wait>(
     schema: &str,
 ) -> Result<(Vec<KnownKey>, Vec<Place>), AllocError>
     requires free { MayTakeLatches seat.old }
+    requires known { seat.old.me.0.known ≡ known.old.known }
     ensures same { known.new.known ≡ known.old.known }
     ensures pins { known.new.pins ≡ known.old.pins }
     ensures found { (k : Keys) × AtItsTable seat.old seat.new (TookDirectory seat.old.table.slots k k)
@@ -39,12 +41,32 @@ pub fn find_tables<R: Wait>(
     let directory = await_directory(rt, seat);
     match list_tables(seat, &directory, alloc, known, schema) {
         Ok(found) => {
-            seat.put_directory_telling(directory, &found.0);
+            pin_unknown(seat, &directory, known, &found.0);
+            seat.put_directory(directory);
             Ok(found)
         }
         Err(AllocError) => {
-            seat.put_directory_telling(directory, &[]);
+            seat.put_directory(directory);
             Err(AllocError)
+        }
+    }
+}
+
+// Pins the places of those tables that the session doesn't know.
+fn pin_unknown(
+    seat: &mut TableSeat,
+    directory: &LatchedDirectory,
+    known: &KnownKeys,
+    tables: &[KnownKey],
+)
+    requires known { seat.old.me.0.known ≡ known.now.known }
+    requires may { (k : Keys) × MayPinTables k tables.now seat.old.me }
+    requires within { AreWithin seat.old.table.slots tables.now }
+    ensures pinned { AtItsTable seat.old seat.new (PinsPlaces (unknown seat.old.me.0.known tables.now)) }
+{
+    for table in tables {
+        if known.place_of(&table.key).is_none() {
+            seat.pin_place(directory, table.place);
         }
     }
 }

@@ -35,9 +35,9 @@ invariant_of-member g c =
     let made = read.ensures.noted d hit in
     let room = c.note_reached.new.self.room in
     let keeps = c.note_reached.ensures.rest.room in
-    let finds = seat-finds m c.args.id t its kept met read.new.self read.result d hit read.ensures.newest read.ensures.one made room keeps in
+    let finds = seat-finds m c.args.id t its kept met read.new.self read.result d hit read.ensures.newest read.ensures.one read.ensures.fits made room keeps in
     record {
-      lawful = ∣ kept-sound (Read_kept _ _) (member m) (noted-order (found-noted finds) (member m)) (seat-joins m c.args.id t its kept met read.new.self read.result d hit read.ensures.newest read.ensures.one made room keeps) ∣₁;
+      lawful = ∣ kept-sound (Read_kept _ _) (member m) (noted-order (found-noted finds) (member m)) (seat-joins m c.args.id t its kept met read.new.self read.result d hit read.ensures.newest read.ensures.one read.ensures.fits made room keeps) ∣₁;
       lists = lists-noted m (found-noted finds) refl c.note_reached.ensures.noted;
       room = λ ask asks. room-kept m.tickets c.note_reached.new.self keeps (m.room ask asks);
       owed = owed-both m c.note_reached.ensures.rest.owes (noted-owes (found-noted finds));
@@ -73,10 +73,10 @@ returns-after-look g c =
           let made = read.ensures.noted d hit in
           let room = w.note_reached.new.self.room in
           let keeps = w.note_reached.ensures.rest.room in
-          let finds = seat-finds m id t its kept met read.new.self read.result d hit read.ensures.newest read.ensures.one made room keeps in
-          let joins = seat-joins m id t its kept met read.new.self read.result d hit read.ensures.newest read.ensures.one made room keeps in
-          let still = seat-met m id t its kept met read.new.self read.result d hit read.ensures.newest read.ensures.one made room keeps in
-          let has = HasMet (data_of (after m id t its kept met read.new.self read.result d hit read.ensures.newest read.ensures.one made room keeps)) read.new.self.me.0.number in (
+          let finds = seat-finds m id t its kept met read.new.self read.result d hit read.ensures.newest read.ensures.one read.ensures.fits made room keeps in
+          let joins = seat-joins m id t its kept met read.new.self read.result d hit read.ensures.newest read.ensures.one read.ensures.fits made room keeps in
+          let still = seat-met m id t its kept met read.new.self read.result d hit read.ensures.newest read.ensures.one read.ensures.fits made room keeps in
+          let has = HasMet (data_of (after m id t its kept met read.new.self read.result d hit read.ensures.newest read.ensures.one read.ensures.fits made room keeps)) read.new.self.me.0.number in (
             (
               refl,
               (λ _. tt),

@@ -2,6 +2,7 @@
 use Rattle.std.proofs.Common.{◌≡◌, ◌≤◌, ℕ, List, [], ◌∷◌, ◌++◌, None, inr, refl, sym, ap, subst, ◌∙◌, arith}
 use Rattle.mdl_shared.proofs.Lemmas.{At_place, IsMember, Joins, KeyName, KnownKey, Lists, NoPlace, OutOfMemory, Refused, Resolve, SpaceError, data_of, done-nothing, done-order, is_known, kept, last-is_known, learnt-order, learnt-owes, lists-learnt, lists-stepped, member, no_place-joins, order-pinned, owed-on, owed-stepped, place_known, refused, resolve-joins, resolved, same-stays, session_at, speaks, stepped, view_of}
 use Rattle.mdl_shared.proofs.FirstLemmas.{with_place}
+use Rattle.mdl_shared.proofs.KnownKeys.{known_none}
 use Rattle.mdl_visits.specs.KnownLists.{KnownList}
 use Rattle.mdl_shared.proofs.session.Session.look_up.Goals as goal
 use Rattle.mdl_shared.proofs.session.Session.look_up.Goals.{in-NoPlace, in-OutOfMemory}
@@ -24,7 +25,10 @@ pub reserve-requires : goal.reserve-requires
 reserve-requires g c = record { narrow = subst (λ (n : ℕ). n ≤ 65536) (sym c.slot_count-slots.ensures) (member c.self.inside.member).narrow.1 }
 
 pub resolve-requires : goal.resolve-requires
-resolve-requires g c = record { idle = (member c.self.inside.member).idle }
+resolve-requires g c =
+    let m = c.self.inside.member in
+    let none : place_known c.args.key.now m.seat.me.0.known ≡ None = rw (← c.self.view_is) at c.requires.unknown in
+    record { idle = (member m).idle; unknown = known_none m.seat.me.0.known c.args.key.now none }
 
 pub invariant_of-member-in-Err-resolve : goal.invariant_of-member-in-Err-resolve
 invariant_of-member-in-Err-resolve g c =
@@ -63,7 +67,7 @@ push_reserved-requires-clause-unknown g c =
     let none : place_known key m.seat.me.0.known ≡ None = rw (← c.self.view_is) at c.requires.unknown in
     let own : place_known key m.known.known ≡ None = ap (λ (l : Lists). place_known key l.known) m.lists ∙ none in
     let same = c.reserve.ensures.same in
-    let told = resolved m.seat c.resolve.new.seat m.sessions place {room = m.tickets.room} {room′ = m.tickets.room} {pins = m.known.pins} key none c.in-Ok-resolve.ensures.known c.in-Ok-resolve.ensures.answer in (
+    let told = resolved m.seat c.resolve.new.seat m.sessions place {room = m.tickets.room} {room′ = m.tickets.room} {pins = m.known.pins} key c.in-Ok-resolve.ensures.known c.in-Ok-resolve.ensures.answer.2.0 in (
       ap (λ (k : KeyName). place_known k c.reserve.new.self.known) c.in-Ok.ensures.cases ∙ ap (place_known key) same ∙ own,
       ap (λ (ks : List KnownKey). is_known place ks) same ∙ ap (λ (l : Lists). is_known place l.known) m.lists ∙ told.2,
     )
@@ -80,7 +84,7 @@ invariant_of-member-2 g c =
     let key = c.args.key.now in
     let place = c.in-Ok-resolve.place in
     let none : place_known key m.seat.me.0.known ≡ None = rw (← c.self.view_is) at c.requires.unknown in
-    let told = resolved m.seat c.resolve.new.seat m.sessions place {room = m.tickets.room} {room′ = m.tickets.room} {pins = m.known.pins} key none c.in-Ok-resolve.ensures.known c.in-Ok-resolve.ensures.answer in
+    let told = resolved m.seat c.resolve.new.seat m.sessions place {room = m.tickets.room} {room′ = m.tickets.room} {pins = m.known.pins} key c.in-Ok-resolve.ensures.known c.in-Ok-resolve.ensures.answer.2.0 in
     let pins : c.pin.new.self.pins ≡ with_place place m.known.pins =
     ap (λ (k : KnownList). k.pins) c.pin.ensures.pins ∙ ap (with_place place) (c.push_reserved.ensures.pins ∙ c.reserve.ensures.pins) in
     record {
@@ -105,7 +109,7 @@ returns-clause-joined g c =
     let key = c.args.key.now in
     let place = c.in-Ok-resolve.place in
     let none : place_known key m.seat.me.0.known ≡ None = rw (← c.self.view_is) at c.requires.unknown in
-    let told = resolved m.seat c.resolve.new.seat m.sessions place {room = m.tickets.room} {room′ = m.tickets.room} {pins = m.known.pins} key none c.in-Ok-resolve.ensures.known c.in-Ok-resolve.ensures.answer in
+    let told = resolved m.seat c.resolve.new.seat m.sessions place {room = m.tickets.room} {room′ = m.tickets.room} {pins = m.known.pins} key c.in-Ok-resolve.ensures.known c.in-Ok-resolve.ensures.answer.2.0 in
     let pins : c.pin.new.self.pins ≡ with_place place m.known.pins =
     ap (λ (k : KnownList). k.pins) c.pin.ensures.pins ∙ ap (with_place place) (c.push_reserved.ensures.pins ∙ c.reserve.ensures.pins) in
     rw (← c.self.view_is) (subst (λ (ps : List ℕ). Joins (data_of (view_of m)) (Resolve m.seat.me.0.number key) (At_place place) (data_of (session_at c.resolve.new.seat m.sessions m.tickets.room ps)))

@@ -49,9 +49,9 @@ invariant_of-member g c =
     let made = read.ensures.noted d hit in
     let room = c.note_all.new.self.room in
     let keeps = c.note_all.ensures.rest.room in
-    let finds = seat-finds m c.args.id t its kept met read.new.self read.result d hit read.ensures.newest read.ensures.one made room keeps in
+    let finds = seat-finds m c.args.id t its kept met read.new.self read.result d hit read.ensures.newest read.ensures.one read.ensures.fits made room keeps in
     record {
-      lawful = ∣ kept-sound (Read_kept _ _) (member m) (noted-order (found-noted finds) (member m)) (seat-joins m c.args.id t its kept met read.new.self read.result d hit read.ensures.newest read.ensures.one made room keeps) ∣₁;
+      lawful = ∣ kept-sound (Read_kept _ _) (member m) (noted-order (found-noted finds) (member m)) (seat-joins m c.args.id t its kept met read.new.self read.result d hit read.ensures.newest read.ensures.one read.ensures.fits made room keeps) ∣₁;
       lists = lists-noted m (found-noted finds) refl c.note_all.ensures.noted;
       room = λ ask asks. room-kept m.tickets c.note_all.new.self keeps (m.room ask asks);
       owed = owed-both m c.note_all.ensures.rest.owes (noted-owes (found-noted finds));
@@ -83,7 +83,7 @@ returns-in_default-clone-clause-joined g c =
     let made = read.ensures.noted d hit in
     let room = c.note_all.new.self.room in
     let keeps = c.note_all.ensures.rest.room in
-    rw (← c.self.view_is) (full-joins (view_of m) c.args.id t its (kept_standing read.result d) (seat-finds m c.args.id t its kept met read.new.self read.result d hit read.ensures.newest read.ensures.one made room keeps) (seat-joins m c.args.id t its kept met read.new.self read.result d hit read.ensures.newest read.ensures.one made room keeps))
+    rw (← c.self.view_is) (full-joins (view_of m) c.args.id t its (kept_standing read.result d) (seat-finds m c.args.id t its kept met read.new.self read.result d hit read.ensures.newest read.ensures.one read.ensures.fits made room keeps) (seat-joins m c.args.id t its kept met read.new.self read.result d hit read.ensures.newest read.ensures.one read.ensures.fits made room keeps))
 
 pub returns-in_default-clone-clause-shown : goal.returns-in_default-clone-clause-shown
 returns-in_default-clone-clause-shown g c =
@@ -98,7 +98,7 @@ returns-in_default-clone-clause-shown g c =
     let made = read.ensures.noted d hit in
     let room = c.note_all.new.self.room in
     let keeps = c.note_all.ensures.rest.room in
-    rw (← c.self.view_is) (full-shows (view_of m) c.args.id t its (kept_standing read.result d) (seat-finds m c.args.id t its kept met read.new.self read.result d hit read.ensures.newest read.ensures.one made room keeps))
+    rw (← c.self.view_is) (full-shows (view_of m) c.args.id t its (kept_standing read.result d) (seat-finds m c.args.id t its kept met read.new.self read.result d hit read.ensures.newest read.ensures.one read.ensures.fits made room keeps))
 
 pub returns-in_default-clone-clause-met : goal.returns-in_default-clone-clause-met
 returns-in_default-clone-clause-met g c =
@@ -113,7 +113,7 @@ returns-in_default-clone-clause-met g c =
     let made = read.ensures.noted d hit in
     let room = c.note_all.new.self.room in
     let keeps = c.note_all.ensures.rest.room in
-    seat-still m c.args.id t its kept met read.new.self read.result d hit read.ensures.newest read.ensures.one made room keeps
+    seat-still m c.args.id t its kept met read.new.self read.result d hit read.ensures.newest read.ensures.one read.ensures.fits made room keeps
 
 pub returns-in_default-clone-clause-left : goal.returns-in_default-clone-clause-left
 returns-in_default-clone-clause-left g c = refl
@@ -131,7 +131,7 @@ returns-in-Some-peek-clause-joined g c =
     let made = read.ensures.noted d hit in
     let room = c.note_all.new.self.room in
     let keeps = c.note_all.ensures.rest.room in
-    rw (← c.self.view_is, c.in-Ok.ensures.cases) (seat-joins m c.args.id t its kept met read.new.self read.result d hit read.ensures.newest read.ensures.one made room keeps)
+    rw (← c.self.view_is, c.in-Ok.ensures.cases) (seat-joins m c.args.id t its kept met read.new.self read.result d hit read.ensures.newest read.ensures.one read.ensures.fits made room keeps)
 
 pub returns-in-Some-peek-clause-shown : goal.returns-in-Some-peek-clause-shown
 returns-in-Some-peek-clause-shown g c =
@@ -146,7 +146,7 @@ returns-in-Some-peek-clause-shown g c =
     let made = read.ensures.noted d hit in
     let room = c.note_all.new.self.room in
     let keeps = c.note_all.ensures.rest.room in
-    rw (← c.self.view_is, c.in-Ok.ensures.cases) (hit-shows (view_of m) c.args.id t its (kept_standing read.result d) (seat-finds m c.args.id t its kept met read.new.self read.result d hit read.ensures.newest read.ensures.one made room keeps))
+    rw (← c.self.view_is, c.in-Ok.ensures.cases) (hit-shows (view_of m) c.args.id t its (kept_standing read.result d) (seat-finds m c.args.id t its kept met read.new.self read.result d hit read.ensures.newest read.ensures.one read.ensures.fits made room keeps))
 
 pub returns-in-Some-peek-clause-met : goal.returns-in-Some-peek-clause-met
 returns-in-Some-peek-clause-met g c =
@@ -161,7 +161,7 @@ returns-in-Some-peek-clause-met g c =
     let made = read.ensures.noted d hit in
     let room = c.note_all.new.self.room in
     let keeps = c.note_all.ensures.rest.room in
-    subst (λ (x : CacheView). AreMet (HasMet (data_of (after m c.args.id t its kept met read.new.self read.result d hit read.ensures.newest read.ensures.one made room keeps)) m.seat.me.0.number) x.kept) (sym c.look-first.follows.holds-at-none) (seat-met m c.args.id t its kept met read.new.self read.result d hit read.ensures.newest read.ensures.one made room keeps)
+    subst (λ (x : CacheView). AreMet (HasMet (data_of (after m c.args.id t its kept met read.new.self read.result d hit read.ensures.newest read.ensures.one read.ensures.fits made room keeps)) m.seat.me.0.number) x.kept) (sym c.look-first.follows.holds-at-none) (seat-met m c.args.id t its kept met read.new.self read.result d hit read.ensures.newest read.ensures.one read.ensures.fits made room keeps)
 
 pub returns-in-Some-peek-clause-kept : goal.returns-in-Some-peek-clause-kept
 returns-in-Some-peek-clause-kept g c =
@@ -176,7 +176,7 @@ returns-in-Some-peek-clause-kept g c =
     let made = read.ensures.noted d hit in
     let room = c.note_all.new.self.room in
     let keeps = c.note_all.ensures.rest.room in
-    rw (← c.self.view_is, c.in-Ok.ensures.cases) (t, its, (read.result, rw hit (refl, seat-finds m c.args.id t its kept met read.new.self read.result d hit read.ensures.newest read.ensures.one made room keeps, c.look-first.follows.holds-at-none)))
+    rw (← c.self.view_is, c.in-Ok.ensures.cases) (t, its, (read.result, rw hit (refl, seat-finds m c.args.id t its kept met read.new.self read.result d hit read.ensures.newest read.ensures.one read.ensures.fits made room keeps, c.look-first.follows.holds-at-none)))
 
 pub returns-in_err-standing-clause-shown : goal.returns-in_err-standing-clause-shown
 returns-in_err-standing-clause-shown g c =

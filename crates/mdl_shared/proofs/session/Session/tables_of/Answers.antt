@@ -5,8 +5,9 @@ use Rattle.mdl_shared.proofs.session.Session.tables_of.Goals as goal
 
 pub find_tables-requires : goal.find_tables-requires
 find_tables-requires g c =
-    let is = member c.self.inside.member in
-    record { free = record { idle = is.idle; narrow = is.narrow.1 } }
+    let m = c.self.inside.member in
+    let is = member m in
+    record { free = record { idle = is.idle; narrow = is.narrow.1 }; known = sym (ap (λ (l : Lists). l.known) m.lists) }
 
 pub invariant_of-member : goal.invariant_of-member
 invariant_of-member g c =

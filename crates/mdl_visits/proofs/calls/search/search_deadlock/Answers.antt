@@ -1,5 +1,5 @@
 -- All of it happens while the directory's latch is held, by the keys that its record has.
-use Rattle.mdl_visits.proofs.Lemmas.{IfOk-weaker, SeatState, ap, built_of_none, but_searching, has_taken_none, in_hand, informed_still, known_taken, knows_on, may_inform, may_inform_still, on_err_weaker, reads_all, refl, searched, searched_still, searches_after, sym, took_directory, took_still, true, ◌∙◌}
+use Rattle.mdl_visits.proofs.Lemmas.{IfOk-weaker, SeatState, ap, built_of_none, but_searching, has_taken_none, in_hand, dismissed_still, known_taken, knows_on, may_dismiss, may_dismiss_still, on_err_weaker, reads_all, refl, searched, searched_still, searches_after, sym, took_directory, took_still, true, ◌∙◌}
 use Rattle.mdl_visits.proofs.calls.search.search_deadlock.Goals as goal
 
 pub search_from-outcome-requires-clause-taken : goal.search_from-outcome-requires-clause-taken
@@ -15,8 +15,8 @@ search_from-outcome-requires-clause-taken g c =
 
 pub put_directory-requires : goal.put_directory-requires
 put_directory-requires g c = record {
-  put = may_inform_still c.key_count-last.new.self c.search_from-outcome.new.seat
-      (may_inform c.args.seat.now c.await_directory-directory.new.seat c.key_count-last.new.self c.await_directory-directory.ensures.taken c.key_count-last.ensures.same c.requires.free.idle
+  put = may_dismiss_still c.key_count-last.new.self c.search_from-outcome.new.seat
+      (may_dismiss c.args.seat.now c.await_directory-directory.new.seat c.key_count-last.new.self c.await_directory-directory.ensures.taken c.key_count-last.ensures.same c.requires.free.idle
       _ c.search_from-outcome.ensures.ends.reads);
 }
 
@@ -28,7 +28,7 @@ returns-clause-reads g c =
     let same = c.key_count-last.ensures.same in
     reads_all a c.await_directory-directory.new.seat counted taken same c.requires.free.idle
     _ c.search_from-outcome.ensures.ends.reads _
-    (informed_still a counted c.search_from-outcome.new.seat c.put_directory.new.self (sym (ap (λ (s : SeatState). s.me.0.searches) (same ∙ taken.3))) c.put_directory.ensures.made)
+    (dismissed_still a counted c.search_from-outcome.new.seat c.put_directory.new.self (sym (ap (λ (s : SeatState). s.me.0.searches) (same ∙ taken.3))) c.put_directory.ensures.made)
 
 pub returns-clause-searched : goal.returns-clause-searched
 returns-clause-searched g c =
@@ -40,7 +40,7 @@ returns-clause-searched g c =
     let taken = c.await_directory-directory.ensures.taken in
     let same = c.key_count-last.ensures.same in
     let reads = c.search_from-outcome.ensures.ends.reads in
-    let put = informed_still a counted looked went (sym (ap (λ (s : SeatState). s.me.0.searches) (same ∙ taken.3))) c.put_directory.ensures.made in
+    let put = dismissed_still a counted looked went (sym (ap (λ (s : SeatState). s.me.0.searches) (same ∙ taken.3))) c.put_directory.ensures.made in
     let count = c.key_count-last.ensures.told taken.1 (in_hand a b counted taken same c.requires.free.idle).carried in
     let built = built_of_none c.new.result c.new-graph.result c.new.ensures c.new-graph.ensures in
     let found = c.search_from-outcome.ensures.ends.found in (
@@ -59,7 +59,7 @@ returns-clause-own g c =
     let went : SeatState = c.put_directory.new.self in
     let taken = c.await_directory-directory.ensures.taken in
     let same = c.key_count-last.ensures.same in
-    let put = informed_still a counted looked went (sym (ap (λ (s : SeatState). s.me.0.searches) (same ∙ taken.3))) c.put_directory.ensures.made in
+    let put = dismissed_still a counted looked went (sym (ap (λ (s : SeatState). s.me.0.searches) (same ∙ taken.3))) c.put_directory.ensures.made in
     let count = c.key_count-last.ensures.told taken.1 (in_hand a b counted taken same c.requires.free.idle).carried in
     let built = built_of_none c.new.result c.new-graph.result c.new.ensures c.new-graph.ensures in
     let found = c.search_from-outcome.ensures.ends.found in
