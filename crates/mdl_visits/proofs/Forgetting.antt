@@ -150,3 +150,11 @@ module _ (place : ℕ) (entries : List (KeyName × ℕ)) (indexes : List ℕ) (i
         let apart : (q == place) ≡ false = by_bool (q == place) (λ hit. absurd (else (eqb-true q place hit))) (λ miss. miss) in
         ap (is_known q) known_left ∙ forgotten_else place q (map known_of entries) else ∙ are q mark (sym (get_other marks place q (unpinned old) apart) ∙ is) pin
   ]
+
+-- ---- a value in a list
+
+pub value_there : (xs : List ℕ) (i n : ℕ) → slice_get xs i ≡ Some n → (i < length xs) × (get_or xs i 0 ≡ n)
+value_there xs i n there =
+    let inside = slice_get_within xs i n there in
+    let both : Some (get_or xs i 0) ≡ Some n = sym (slice_get-get_or xs i 0 inside) ∙ there in
+    (inside, cc)

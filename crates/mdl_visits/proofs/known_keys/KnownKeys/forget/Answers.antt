@@ -9,7 +9,7 @@ use Rattle.mdl_visits.proofs.Pins.{pins_less}
 use Rattle.mdl_visits.specs.OwnKeys.{AreBehind, AreIndexed, AreKinds, ArePinsKnown, IsNarrow, known_of, unpinned}
 use Rattle.mdl_visits.specs.declared.known_keys.KnownKeys.TheInside.{Inside}
 use Rattle.mdl_visits.specs.declared.known_keys.Mark.{Mark}
-use Rattle.mdl_visits.proofs.Lemmas.{with_items_is}
+use Rattle.std.proofs.lemmas.List.{with_items_is}
 use Rattle.mdl_visits.proofs.known_keys.KnownKeys.forget.Goals as goal
 
 pub index-requires : goal.index-requires
