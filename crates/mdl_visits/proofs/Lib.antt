@@ -27,6 +27,7 @@ pub mod Changing
 pub mod Lookups
 pub mod KeyLists
 pub mod Forgetting
+pub mod Unpinning
 pub mod Pins
 pub mod Naming
 pub mod GivingAnew
