@@ -25,7 +25,7 @@ pub use Rattle.mdl_key.specs.declared.namespace.Kind.{Kind}
 pub use Rattle.mdl_steps.specs.Words.{AtItsTable, Distinct, Each, Follows, IsCounted, IsLost, IsPlace, IsRising, IsSession, IsSettled, IsStepOf, KnowsKeys, KnowsPlace, LearnsVersion, MayReleaseFast, Mine, NotWaited, Once, ReadNoneNewer, ReadOneStanding, ReadWhatFits, SeatState, TellsOwn, WaitOk, all_next, all_owned, asking, but_at, but_own, ended_granted, enrolled_seat, fast_own, first_note, granted_state, held_at, inserted, interleaved, is_key_known, is_of_tables, is_own, is_table_of, key_at, learnt_version, lock_word, logged, lost_state, meeting, met_version, met_wait, most_fast, moved, note_at, noted_version, noting_version, own_at, owned, reads_at, session_count, taken_over, ticket_by, unknown, unsettled_state, version_word, wait_in, wait_state, wait_word, waiter_of, word_count}
 pub use Rattle.mdl_steps.specs.declared.deed.Deed.{Deed}
 pub use Rattle.mdl_steps.specs.declared.deed.Deed.TheVariants.{Alter, Gain, Lose}
-pub use Rattle.mdl_steps.specs.declared.step_kind.StepKind.TheVariants.{EndWait, Materialise, MissWait, ReadWait, SettleWait}
+pub use Rattle.mdl_steps.specs.declared.step_kind.StepKind.TheVariants.{EndWait, Materialise, MissWait, ReadWait, SettleWait, Unpin}
 pub use Rattle.mdl_steps.specs.declared.view.Ask.{Ask}
 pub use Rattle.mdl_steps.specs.declared.view.Keys.{Keys}
 pub use Rattle.mdl_steps.specs.declared.view.SessionTicket.{SessionTicket}

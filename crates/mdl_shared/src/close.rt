@@ -3,6 +3,7 @@ ghost use Rattle.std.specs.Prelude.{MatchResult};
 
 use crate::{Pass, Session};
 use mdl_calls::Place;
+use mdl_visits::unpin_all;
 
 /// Why [`Session::close`] failed. The session isn't closed, and is given back.
 pub enum CloseError<R> {
@@ -15,7 +16,7 @@ pub enum CloseError<R> {
 impl<R: Drop> Session<R> {
     ghost use Rattle.mdl_shared.specs.Closings.{HasClosed, StaysOpen};
 
-    /// Closes the session, which gives up its pins, and returns its pass. Fails with [`CloseError::HoldsTickets`] while the session has a
+    /// Closes the session, which unpins all places that it still pins at the table, and returns its pass. Fails with [`CloseError::HoldsTickets`] while the session has a
     /// ticket or a wait, settled or not, and otherwise with [`CloseError::Owes`] while it owes a place a [`Session::reschedule`], for the
     /// first such place. If it fails, the session is unchanged. It takes no memory.
     pub fn close(self) -> Result<Pass, CloseError<R>>
@@ -28,7 +29,7 @@ impl<R: Drop> Session<R> {
             return Err(CloseError::Owes(self, place as Place));
         }
         let Session { rt: _, mut member } = self;
-        member.known.unpin_all();
+        unpin_all(&mut member.seat, &mut member.known);
         Ok(Pass { member })
     }
 }

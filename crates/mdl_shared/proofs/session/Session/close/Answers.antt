@@ -1,20 +1,34 @@
 -- A session that is closed has no ticket, slow or fast, owes nothing, and needs no pin. One that isn't has a ticket, or owes a place a reschedule.
-use Rattle.std.proofs.Common.{◌≡◌, length, refl, sym, ap, subst, ◌∙◌, arith, eqb-true}
-use Rattle.mdl_shared.proofs.Lemmas.{IsMember, interleaved, length-interleaved, member, none-owed, session_at}
-use Rattle.mdl_shared.proofs.ClosedSessions.{has-nothing, unpinned-member}
-use Rattle.mdl_visits.specs.KnownLists.{KnownList}
+use Rattle.std.proofs.Common.{◌≡◌, ℕ, ◌==◌, List, [], length, list_any, refl, sym, ap, subst, ◌∙◌, arith, eqb-true}
+use Rattle.mdl_shared.proofs.Lemmas.{IsMember, KnownKey, Lists, Mine, interleaved, length-interleaved, lists_seen, member, none-owed, view_of}
+use Rattle.mdl_shared.proofs.ClosedSessions.{closed-view, has-nothing, known-within, nothing-at, nothing-left, unpinned-member}
 use Rattle.mdl_shared.proofs.session.Session.close.Goals as goal
+
+pub unpin_all-requires : goal.unpin_all-requires
+unpin_all-requires g c =
+    let m = c.self.inside.member in
+    let none = nothing-left m (eqb-true (length (interleaved m.tickets.slow m.tickets.fast)) 0 (sym c.is_empty.ensures ∙ c.if-not-is_empty.false)) (sym c.is_some.ensures ∙ c.if-is_some.false) in
+    let paid = none-owed m.seat.me.0.owes (λ q. sym (m.owed q) ∙ (rw c.in_default.is at c.first_owed.ensures) q) in
+    record {
+      same = sym (ap (λ (l : Lists). l.known) m.lists);
+      within = known-within {s = view_of m} (member m) none.0 none.1 none.2 none.3 paid;
+      nothing = nothing-at {s = view_of m} (member m) none.0 none.1 none.2 none.3 paid;
+    }
 
 pub invariant_of-member : goal.invariant_of-member
 invariant_of-member g c =
     let m = c.self.inside.member in
-    let none : length (interleaved m.tickets.slow m.tickets.fast) ≡ 0 = eqb-true (length (interleaved m.tickets.slow m.tickets.fast)) 0 (sym c.is_empty.ensures ∙ c.if-not-is_empty.false) in
-    let nothing = has-nothing m none (sym c.is_some.ensures ∙ c.if-is_some.false) in
+    let none = nothing-left m (eqb-true (length (interleaved m.tickets.slow m.tickets.fast)) 0 (sym c.is_empty.ensures ∙ c.if-not-is_empty.false)) (sym c.is_some.ensures ∙ c.if-is_some.false) in
+    let paid = none-owed m.seat.me.0.owes (λ q. sym (m.owed q) ∙ (rw c.in_default.is at c.first_owed.ensures) q) in
+    let did = c.unpin_all.ensures in
+    let made = did.unpinned.1.0 in
+    let now = closed-view m c.unpin_all.new.seat c.unpin_all.new.known.pins made did.unpinned.0 did.unpinned.1.1 did.pins in
     record {
-      lawful = ∣ subst (λ (k : KnownList). IsMember (session_at m.seat m.sessions m.tickets.room k.pins)) (sym c.unpin_all.ensures.pins) (unpinned-member (member m) nothing) ∣₁;
-      lists = ap (λ (k : KnownList). record { slow = m.tickets.slow; fast = m.tickets.fast; known = k.known; next = m.next; asks = m.asks; waits = m.waits }) c.unpin_all.ensures.pins ∙ m.lists;
+      lawful = ∣ subst IsMember (sym now) (unpinned-member {s = view_of m} (member m) none.0 none.1 none.2 none.3 paid made) ∣₁;
+      lists = ap (λ (ks : List KnownKey). record { slow = m.tickets.slow; fast = m.tickets.fast; known = ks; next = m.next; asks = m.asks; waits = m.waits }) did.forgotten
+          ∙ ap (λ (l : Lists). record l { known = [] }) m.lists ∙ sym (ap lists_seen (ap (λ (x : Mine). x.0) did.unpinned.1.1));
       room = m.room;
-      owed = m.owed;
+      owed = λ q. m.owed q ∙ ap (λ (x : Mine). list_any (λ (p : ℕ). p == q) x.0.owes) (sym did.unpinned.1.1);
     }
 
 pub invariant_of-result-clause-empty : goal.invariant_of-result-clause-empty
