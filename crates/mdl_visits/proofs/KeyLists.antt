@@ -36,7 +36,7 @@ known_found key (k ∷ ks) = grind (arith, known_found key ks)
 
 -- ---- by the place
 
-abbrev At : ℕ → ℕ → List (KeyName × ℕ) → Type 0
+abbrev pub At : ℕ → ℕ → List (KeyName × ℕ) → Type 0
 At place i entries = (e : KeyName × ℕ) × (slice_get entries i ≡ Some e) × (e.1 ≡ place)
 
 nowhere : (place : ℕ) (entries : List (KeyName × ℕ)) → ((i : ℕ) → At place i entries → ⊥) → key_known place (map known_of entries) ≡ None
@@ -77,7 +77,7 @@ module _ (place : ℕ) (entries : List (KeyName × ℕ)) (indexes : List ℕ) (i
   found_at at e is stands own = here place at e entries stands own (λ i there. (let same = sym is ∙ under i there in cc))
 
 -- a place that is known has an entry
-known_entry : (place : ℕ) (entries : List (KeyName × ℕ)) → is_known place (map known_of entries) ≡ true → (i : ℕ) × At place i entries
+pub known_entry : (place : ℕ) (entries : List (KeyName × ℕ)) → is_known place (map known_of entries) ≡ true → (i : ℕ) × At place i entries
 known_entry place [] is = absurd (cc)
 known_entry place (e ∷ es) is =
     by_bool (e.1 == place)
@@ -104,12 +104,12 @@ get_last [] y z (suc i) past is = absurd (cc)
 get_last (x ∷ xs) y z zero past is = absurd (omega arith)
 get_last (x ∷ xs) y z (suc i) past is = (let later = get_last xs y z i (omega arith) is in (ap suc later.0, later.1))
 
-get_set : {X : Type 0} (xs : List X) (i : ℕ) (y : X) → i < length xs → slice_get (set xs i y) i ≡ Some y
+pub get_set : {X : Type 0} (xs : List X) (i : ℕ) (y : X) → i < length xs → slice_get (set xs i y) i ≡ Some y
 get_set [] i y inside = absurd (omega arith)
 get_set (x ∷ xs) zero y inside = refl
 get_set (x ∷ xs) (suc i) y inside = get_set xs i y (omega arith)
 
-get_other : {X : Type 0} (xs : List X) (i j : ℕ) (y : X) → (j == i) ≡ false → slice_get (set xs i y) j ≡ slice_get xs j
+pub get_other : {X : Type 0} (xs : List X) (i j : ℕ) (y : X) → (j == i) ≡ false → slice_get (set xs i y) j ≡ slice_get xs j
 get_other [] i j y other = refl
 get_other (x ∷ xs) zero zero y other = absurd (cc)
 get_other (x ∷ xs) zero (suc j) y other = refl

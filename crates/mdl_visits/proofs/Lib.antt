@@ -26,6 +26,8 @@ pub mod Reading
 pub mod Changing
 pub mod Lookups
 pub mod KeyLists
+pub mod Forgetting
+pub mod Unpinning
 pub mod Pins
 pub mod Naming
 pub mod GivingAnew

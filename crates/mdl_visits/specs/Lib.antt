@@ -17,6 +17,7 @@ pub mod Readings
 pub mod Redefinitions
 pub mod Searches
 pub mod Tables
+pub mod Unpinnings
 pub mod Visits
 pub mod WaitEndings
 pub mod WaitOpenings

@@ -1,6 +1,6 @@
 -- How a session keeps the keys that it looked up: their places in order of the look-ups, by places the index in that list, and by places a mark, with the kind
 -- of the lock and whether the session pins the place.
-use Rattle.std.specs.Prelude.{◌≡◌, ℕ, ◌≤◌, Bool, true, false, List, Option, Some, None, if◌then◌else◌, length, map, slice_get}
+use Rattle.std.specs.Prelude.{◌≡◌, ℕ, ◌+◌, ◌≤◌, nat_lt, Bool, true, false, List, Option, Some, None, if◌then◌else◌, length, map, slice_get}
 use Rattle.mdl_key.specs.declared.namespace.Kind.TheVariants.{Scoped}
 use Rattle.mdl_visits.specs.Prelude.{KeyName, Kind, KnownKey, is_known, kind_known, option_and_then, option_map}
 use Rattle.mdl_visits.specs.declared.known_keys.Mark.{Mark}
@@ -13,6 +13,15 @@ known_of entry = record { key = entry.0; place = entry.1 }
 abbrev pub AreIndexed : List (KeyName × ℕ) → List ℕ → Type 0
 AreIndexed entries indexes =
     (at : ℕ) (entry : KeyName × ℕ) → slice_get entries at ≡ Some entry → slice_get indexes entry.1 ≡ Some at
+
+-- the index of a key that comes behind this many others, or is one of these, as it was before one key in front of it was removed
+abbrev pub index_before : ℕ → ℕ → ℕ
+index_before from at = if nat_lt at from then at else at + 1
+
+-- the list of indexes has the index of each key at the key's place, but one more for the keys from this index on
+abbrev pub AreBehind : ℕ → List (KeyName × ℕ) → List ℕ → Type 0
+AreBehind from entries indexes =
+    (at : ℕ) (entry : KeyName × ℕ) → slice_get entries at ≡ Some entry → slice_get indexes entry.1 ≡ Some (index_before from at)
 
 -- there are no more indexes than numbers of 16 bits
 abbrev pub IsNarrow : List ℕ → Type 0

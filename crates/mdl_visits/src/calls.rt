@@ -16,4 +16,5 @@ pub(crate) mod search;
 pub(crate) mod tables_of;
 pub(crate) mod try_fast;
 pub(crate) mod try_now;
+pub(crate) mod unpin;
 pub(crate) mod upgrade_now;

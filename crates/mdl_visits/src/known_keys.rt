@@ -1,5 +1,5 @@
 //! A session's own list of the keys that it looked up, and of the places that it pins.
-ghost use Rattle.std.specs.Prelude.{None, OnOk, Some, [], false, length, map, replicate, slice_get, true, ℕ, ◌+◌, ◌++◌, ◌∷◌, ◌<◌, ◌≡◌, ◌≤◌};
+ghost use Rattle.std.specs.Prelude.{MatchOption, None, OnOk, Some, [], false, length, map, replicate, slice_get, true, ℕ, ◌+◌, ◌++◌, ◌∷◌, ◌<◌, ◌≡◌, ◌≤◌};
 ghost use Rattle.std.specs.Option.{is_some, option_copied};
 ghost use Rattle.mdl_steps.specs.Schemas.{is_key_known, unknown};
 ghost use Rattle.mdl_visits.specs.Tables.{AreWithin};
@@ -7,7 +7,8 @@ ghost use Rattle.mdl_key.specs.KeyLookups.{are_apart, is_known, key_known, kind_
 ghost use Rattle.mdl_calls.specs.Marks.{marked_from};
 ghost use Rattle.mdl_calls.specs.SessionLocks.{with_place, without_place};
 ghost use Rattle.mdl_visits.specs.KnownLists.{has_pin, kind_pinned};
-ghost use Rattle.mdl_visits.specs.OwnKeys.{IsNarrow, kind_in, no_mark, unpinned};
+ghost use Rattle.mdl_visits.specs.OwnKeys.{AreBehind, AreIndexed, IsNarrow, kind_in, no_mark, unpinned};
+ghost use Rattle.mdl_steps.specs.Pins.{but_known};
 
 use indexmap::IndexMap;
 use mdl_key::{Key, Kind, KnownKey};
@@ -183,6 +184,29 @@ impl KnownKeys {
         }
     }
 
+    /// Returns the place of the key that was added last.
+    pub fn last_place(&self) -> Option<usize>
+        ensures { MatchOption result (self.now.known ≡ []) (λ place. is_known place self.now.known ≡ true) }
+    {
+        let newest = self.places.len().saturating_sub(1);
+        let (_key, place) = self.places.get_index(newest)?;
+        Some(*place)
+    }
+
+    /// Forgets the key of a place, which the session doesn't pin any more. The others stay in order. It takes no memory, and as many steps
+    /// as keys were added after it.
+    pub fn forget(&mut self, place: usize)
+        requires known { is_known place self.old.known ≡ true }
+        ensures known { self.new.known ≡ but_known place self.old.known }
+        ensures pins { self.new.pins ≡ without_place place self.old.pins }
+        ensures reach { self.new.reach ≡ self.old.reach }
+    {
+        let at = usize::from(self.indexes[place]);
+        self.places.shift_remove_index(at);
+        self.marks[place].pinned = false;
+        shift_indexes(&self.places, &mut self.indexes, at);
+    }
+
     /// Gives up all pins. The keys stay known. It takes no memory.
     pub fn unpin_all(&mut self)
         ensures pins { self.new ≡ record self.old { pins = [] } }
@@ -231,6 +255,18 @@ fn reach_marks(marks: &mut Vec<Mark>, slots: usize) -> Result<(), AllocError>
         marks.resize(slots, NO_MARK)?;
     }
     Ok(())
+}
+
+// Lowers the indexes of the keys from this one on, each of which is one too high under its place.
+fn shift_indexes(places: &IndexMap<Key, usize>, indexes: &mut [u16], from: usize)
+    requires behind { AreBehind from places.now.entries indexes.old }
+    ensures indexed { AreIndexed places.now.entries indexes.new }
+    ensures same { length indexes.new ≡ length indexes.old }
+{
+    for at in from..places.len() {
+        let (_key, place) = places.get_index(at).unwrap();
+        indexes[*place] -= 1;
+    }
 }
 
 // Gives up the pins of all places.

@@ -69,6 +69,7 @@ pub use calls::search::search_deadlock;
 pub use calls::tables_of::{find_tables, tables_defined};
 pub use calls::try_fast::{FastTried, try_fast};
 pub use calls::try_now::{TryOutcome, try_now};
+pub use calls::unpin::{let_go, unpin_all};
 pub use calls::upgrade_now::upgrade_now;
 pub use known_keys::KnownKeys;
 pub use laws::{

@@ -30,7 +30,7 @@ module _ (m : Mine) (st : Step Slot) where
     | inl free ↦ (let took = (play.1 at).0 free in by found m′ _ took.2 _ refl (λ kind. absurd (cc)))
     | inr taken ↦ by found m′ _ ((play.1 at).1 taken) _ refl (λ kind. absurd (cc))
   ]
-  enters found m′ (Makes.PutsDirectory more at play) = by found m′ _ (play.1 at) _ refl (λ kind. absurd (cc))
+  enters found m′ (Makes.PutsDirectory at play) = by found m′ _ (play.1 at) _ refl (λ kind. absurd (cc))
   enters found m′ (Makes.TakesLatch q at play) = elim (nat_told found 0) [
     | inl free ↦ (let took = (play.1 q at).0 free in by found m′ _ took.2 _ refl (λ kind. absurd (cc)))
     | inr taken ↦ by found m′ _ ((play.1 q at).1 taken) _ refl (λ kind. absurd (cc))
@@ -40,6 +40,7 @@ module _ (m : Mine) (st : Step Slot) where
   enters found m′ (Makes.PutsReading q may at play) = by found m′ _ (play.1 q may.0.book at may.1.holds.carried) _ refl (λ kind. absurd (cc))
   enters found m′ (Makes.PutsSearched q may sees at play) = by found m′ _ (play.1 q at) _ refl (λ kind. absurd (cc))
   enters found m′ (Makes.PutsKey q key k h may at play) = by found m′ _ (play.1 q (empty_book key) at may.holds.carried) _ refl (λ kind. absurd (cc))
+  enters found m′ (Makes.PutsOtherKey q key k h may at play) = by found m′ _ (play.1 q (empty_book key) at may.holds.carried) _ refl (λ kind. absurd (cc))
   enters found m′ (Makes.RaisesFlags q slow obtrusive at mask play) = by found m′ _ (play.1 q slow obtrusive at mask) _ refl (λ kind. absurd (cc))
   enters found m′ (Makes.LowersFlags q deeds slow obtrusive may at mask play) =
       by found m′ _ (play.1 q slow obtrusive (all_booked m.0.number deeds may.0.book) at mask may.1.holds.carried) _ refl (λ kind. absurd (cc))
@@ -66,6 +67,9 @@ module _ (m : Mine) (st : Step Slot) where
   ]
   enters found m′ (Makes.ReleasesFast q n at play) = by found m′ _ (play.1 q at) _ refl (λ kind. absurd (cc))
   enters found m′ (Makes.Materialises q weight h may at play) = by found m′ _ (play.1 q at) _ refl (λ kind. absurd (cc))
+  enters found m′ (Makes.Pins q key k may at play) = by found m′ _ (play.1 q at) _ refl (λ kind. absurd (cc))
+  enters found m′ (Makes.Unpins q may at play) = by found m′ _ (play.1 q at) _ refl (λ kind. absurd (cc))
+  enters found m′ (Makes.ReadsPins q at play) = by found m′ _ (play.1 q at) _ refl (λ kind. absurd (cc))
 
 -- ---- a change
 
