@@ -71,7 +71,7 @@ pub run-asked : (options : Options) (lines : List Line) (who : ℕ) (asker close
     IsRunFrom options lines (asker ∷ others) passes text
 run-asked options lines who asker closed others back passes before after text begun shut is still rest run more =
     let of_asker : who ≡ pass_number asker = is ∙ ap (λ (s : SessionView). s.me.0.number) begun in
-    let of_closed : pass_number closed ≡ pass_number asker = ap (λ (s : SessionView). s.me.0.number) shut ∙ (still ∙ of_asker) in
+    let of_closed : pass_number closed ≡ pass_number asker = ap (λ (s : SessionView). s.me.0.number) shut.1 ∙ (still ∙ of_asker) in
     let all = asker-back lines who asker closed others back (sym of_asker) of_closed rest in
     let wider = run-among options lines others back (asker ∷ others) (closed ∷ back) before after text
     (Contains-append_right (asker ∷ []) others) (Contains-append_right (closed ∷ []) back) run in

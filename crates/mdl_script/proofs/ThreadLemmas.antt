@@ -66,7 +66,7 @@ answers-are options lines who a b (Err why) speaks had has run numbers = tt
 pub closed-number : (who : ℕ) (opened closed : Pass) (a b : SessionView) → a ≡ pass_view opened → IsClosed closed b →
     who ≡ a.me.0.number → SpeaksFor (data_of b) who → pass_number closed ≡ pass_number opened
 closed-number who opened closed a b begun ended is speaks =
-    ap (λ (s : SessionView). s.me.0.number) ended ∙ (sym speaks.0 ∙ (is ∙ ap (λ (s : SessionView). s.me.0.number) begun))
+    ap (λ (s : SessionView). s.me.0.number) ended.1 ∙ (sym speaks.0 ∙ (is ∙ ap (λ (s : SessionView). s.me.0.number) begun))
 
 -- and the table
 pub closed-there : {Z E : Type 0} (options : Options) (lines : List Line) (who : ℕ) (opened closed : Pass) (a b : SessionView) (result : Result (Vec (ℕ × Reply) Z) E) →
@@ -74,7 +74,7 @@ pub closed-there : {Z E : Type 0} (options : Options) (lines : List Line) (who :
 closed-there options lines who opened closed a b result begun ended run =
     let stays = table-stays (working_off options.patience (lines_of_session who lines) (newcomer who)) (a, record { kept = []; capacity = options.capacity }) (b, run.0)
     (answers_in result) run.1 in
-    ap (λ (s : SessionView). s.table) ended ∙ (stays ∙ ap (λ (s : SessionView). s.table) begun)
+    ap (λ (s : SessionView). s.table) ended.1 ∙ (stays ∙ ap (λ (s : SessionView). s.table) begun)
 
 -- between the two it gave its answers
 pub closed-answers : {Z E : Type 0} (options : Options) (lines : List Line) (who : ℕ) (opened closed : Pass) (a b : SessionView) (result : Result (Vec (ℕ × Reply) Z) E) →

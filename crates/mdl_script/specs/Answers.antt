@@ -7,6 +7,7 @@ use Rattle.mdl_calls.specs.SessionData.{SpeaksFor, own_of}
 use Rattle.mdl_session_laws.specs.SessionJoins.{Joins}
 use Rattle.mdl_rows.specs.declared.reply.Reply.{Reply}
 use Rattle.mdl_syntax.specs.declared.script.Line.{Line}
+use Rattle.mdl_shared.specs.Closings.{UnpinsPlaces}
 use Rattle.mdl_shared.specs.declared.pass.Pass.{Pass}
 use Rattle.mdl_shared.specs.KeptReads.{UsesKept}
 use Rattle.mdl_shared.specs.Passes.{pass_number, pass_view}
@@ -51,9 +52,9 @@ pub record AreAnswers (options : Options) (lines : List Line) (who : ℕ) (befor
   pub has_nothing : HasNothing (own_of (data_of after) who)
   pub numbers : map (λ (answer : ℕ × Reply). answer.0) answers ≡ map (λ (line : Line). line.number) (lines_of_session who lines)
 
--- a session was closed in this state, and this is its pass: it gave up its pins, and is unchanged otherwise
+-- a session was closed in this state, and this is its pass: it unpinned all places, and is unchanged otherwise
 abbrev pub IsClosed : Pass → SessionView → Type 0
-IsClosed pass session = pass_view pass ≡ record session { pins = [] }
+IsClosed pass session = UnpinsPlaces session (pass_view pass)
 
 -- a session gave these answers between the state of its pass and the one in which it was closed
 pub record AnswersBetween (options : Options) (lines : List Line) (who : ℕ) (opened closed : Pass) (answers : List (ℕ × Reply)) : Type 0 where

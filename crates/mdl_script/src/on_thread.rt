@@ -43,7 +43,7 @@ pub(crate) fn work_pass<R: Wait, G: Gate>(
     Answered { pass, answers }
 }
 
-/// Closes a session that has no ticket and no wait, and owes no place a reschedule. It gives up its pins. Returns its pass.
+/// Closes a session that has no ticket and no wait, and owes no place a reschedule. It unpins all places. Returns its pass.
 pub(crate) fn close<R: Drop>(session: Session<R>) -> Pass
     requires nothing { HasNothing (data_of session).own }
     requires paid { session.me.0.owes ≡ [] }

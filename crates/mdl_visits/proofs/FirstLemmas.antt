@@ -11,7 +11,7 @@ pub use Rattle.mdl_visits.proofs.Deadlocks.{built_of_more, built_of_none, none_s
 pub use Rattle.mdl_visits.proofs.Gathering.{as_reads, as_steps, back, back_steps, carried_there, gathers_more, holds_there, may_put, may_take_more, no_steps, quiet_steps_on}
 unfoldable pub use Rattle.mdl_visits.proofs.Gathering.{gathers_none}
 pub use Rattle.mdl_visits.proofs.Leaving.{first_step, leaves, needed, own_found, puts_back, step_later, visits_left}
-pub use Rattle.mdl_visits.proofs.Lookups.{found_answer, found_idle, found_knows, found_nowhere, found_there, had_none, has_left, has_taken, looked, may_dismiss_looked, no_hand, no_idle, no_latches, no_record, refused_answer, refused_idle, refused_nothing, some_there, stands_next, unpinned_yet}
+pub use Rattle.mdl_visits.proofs.Lookups.{found_answer, found_idle, found_knows, found_nowhere, found_there, had_none, has_left, has_taken, holds_keys, looked, may_dismiss_looked, may_dismiss_pinned, may_pin_there, no_hand, no_idle, no_latches, no_record, refused_answer, refused_idle, refused_nothing, some_there, stands_next, unpinned_yet}
 pub use Rattle.mdl_visits.proofs.Numbers.{has_number, idle_waits_not, not_waited}
 pub use Rattle.mdl_visits.proofs.Seats.{mine, place_there, table_of}
 pub use Rattle.mdl_visits.proofs.Steps.{does_then, each_append, each_map, goes_by, goes_none, goes_staying, leaves_after, none_then, quiet_on, quiet_one, quiet_taken, step_after, step_before}

@@ -73,7 +73,7 @@ module _ (place found : ℕ) (a b : SeatState) (read : b ≡ record a { me = met
         made = seen;
         idle = Some place;
         now = seen_there;
-        quiet = ((refl, refl), (refl, refl), tt);
+        quiet = ((refl, refl), ((refl, refl), tt));
         did = refl;
         shows = (glance, Contains-later look (glance ∷ []) glance (Contains-here glance []), inr (inl (refl, refl, some)));
       }
@@ -88,7 +88,7 @@ module _ (place found : ℕ) (a b : SeatState) (read : b ≡ record a { me = met
               fresh = fresh_as place taken.0 (and_idle seen (Some place) a.me) (a.me.0.log ++ (seen ++ taken.3.0)) fresh;
               now = taken.3.1 ∙ ap (λ (m : Mine). latched place taken.0 (and_made taken.3.0 m)) seen_there
                   ∙ (λ i. latched place taken.0 (record a.me.0 { log = append_assoc a.me.0.log seen taken.3.0 i; idle = Some place }, a.me.1));
-              quiet = ((refl, refl), (refl, refl), subst (λ (m : Mine). AllQuiet m.0.directory taken.3.0) seen_there taken.3.2);
+              quiet = ((refl, refl), ((refl, refl), subst (λ (m : Mine). AllQuiet m.0.directory taken.3.0) seen_there taken.3.2));
               did = taken.3.3;
               unpinned = (look, Contains-here look (glance ∷ taken.3.0), refl, refl, none);
               unversioned = zero_;
@@ -105,7 +105,7 @@ module _ (place found : ℕ) (a b : SeatState) (read : b ≡ record a { me = met
               made = seen ++ made;
               idle = Some place;
               now = went.1.1 ∙ ap (and_made made) seen_there ∙ (λ i. (record a.me.0 { log = append_assoc a.me.0.log seen made i; idle = Some place }, a.me.1));
-              quiet = ((refl, refl), (refl, refl), subst (λ (m : Mine). AllQuiet m.0.directory made) seen_there went.1.3);
+              quiet = ((refl, refl), ((refl, refl), subst (λ (m : Mine). AllQuiet m.0.directory made) seen_there went.1.3));
               did = went.1.2;
               shows = (
                 shown.0,
@@ -204,7 +204,7 @@ module _ (place : ℕ) (key : KeyName) (k : Keys) (before : Mine) (a : SeatState
             ∙ (λ i. (record before.0 { latches = dropped_is i; log = log i; directory = may.directory i; idle = Some place }, may.hand i))
             ∙ (λ i. (record before.0 { log = before.0.log ++ made; directory = Some k; idle = Some place }, (0, slot.Directory k) ∷ rest (sym may.hand i))),
         each_append (HadEither k k) may.taken.made (took ∷ gave ∷ []) (each_map (IsQuiet before.0.directory) (HadEither k k) quiet may.taken.made may.taken.quiet)
-            (inl (may.directory, refl), inl (may.directory, refl), tt),
+            (inl (may.directory, refl), (inl (may.directory, refl), tt)),
         none_then may.taken.made (took ∷ gave ∷ []) [] may.taken.did refl,
         unused_by gave refl refl refl,
       )
@@ -245,7 +245,7 @@ module _ (place : ℕ) (key : KeyName) (k : Keys) (before : Mine) (a : SeatState
               ∙ (λ i. (record before.0 { latches = dropped_is i; log = log i; directory = now i; idle = Some place }, (0, slot.Directory left) ∷ []))
               ∙ (λ i. (record before.0 { log = before.0.log ++ made; directory = Some left; idle = Some place }, (0, slot.Directory left) ∷ rest (sym may.hand i))),
           each_append (HadEither k left) may.taken.made (took ∷ gave ∷ []) (each_map (IsQuiet before.0.directory) (HadEither k left) quiet may.taken.made may.taken.quiet)
-              (inl (may.directory, refl), inr (now, refl), tt),
+              (inl (may.directory, refl), (inr (now, refl), tt)),
           none_then may.taken.made (took ∷ gave ∷ []) [] may.taken.did refl,
           unused_by gave refl refl refl,
         )

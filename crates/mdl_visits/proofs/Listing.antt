@@ -1,15 +1,15 @@
 -- What a session has after it asked the directory for the tables of a schema.
 use Rattle.std.proofs.Common.{◌≡◌, ℕ, zero, suc, ◌+◌, ◌-◌, ◌<◌, ◌==◌, not, true, false, List, [], ◌∷◌, ◌++◌, All, AllPairs, length, take, get_or, None, Some, refl, sym, ap, ◌∙◌, subst, inl, arith, append_assoc, append-nil, Option, is_some}
-use Rattle.std.proofs.lemmas.List.{filter-append, take_more}
-use Rattle.std.proofs.lemmas.List.Elements.{All-tail, All-take}
+use Rattle.std.proofs.lemmas.List.{take_more}
+use Rattle.std.proofs.lemmas.List.Elements.{All-tail, All-take, filter-append}
 use Rattle.std.proofs.lemmas.List.Folds.{list_any-append}
 use Rattle.mdl_steps.proofs.Lemmas.{by_bool}
 use Rattle.mdl_steps.specs.declared.slot.Slot.TheVariants as slot
-use Rattle.mdl_visits.proofs.FirstLemmas.{All-weaker, AllQuiet, AreAllTables, AreWithin, AtItsTable, Each, HadEither, HasDirectory, HoldsNoLatch, IsQuiet, Keys, KnownKey, MakesSteps, Mine, SeatState, StandThere, StaysQuiet, StepRecord, TakesDirectory, TookDirectory, and_made, consulted, deeds_of, dismissed, each_append, each_map, given_back, has_taken, key_at, mine, none_then, some_there, table_of, unknown}
+use Rattle.mdl_visits.proofs.FirstLemmas.{All-weaker, AllQuiet, AreAllTables, AreWithin, AtItsTable, Each, HadEither, HasDirectory, HoldsNoLatch, IsQuiet, KeyName, Keys, KnownKey, MakesSteps, Mine, SeatState, StandThere, StaysQuiet, StepRecord, TakesDirectory, TookDirectory, and_made, consulted, deeds_of, dismissed, each_append, each_map, given_back, has_taken, key_at, mine, none_then, some_there, table_of, unknown}
 use Rattle.mdl_visits.proofs.Sorting.{key-ties}
-use Rattle.mdl_visits.proofs.Lookups.{IsThere, learning_one, put_knows, put_took, unknown_there}
+use Rattle.mdl_visits.proofs.Lookups.{IsThere, learning_one, put_knows, put_knows_no_more, put_took, unknown_there}
 use Rattle.mdl_visits.specs.FirstWords.{Less, is_eq, is_key_known, key_cmp, key_eq, pins_word, rest}
-use Rattle.mdl_visits.specs.Prelude.{MayPin, Pin, is_known, learnt, pinned_at, place_known}
+use Rattle.mdl_visits.specs.Prelude.{MayDismiss, MayPin, Pin, is_known, learnt, pinned_at, place_known}
 use Rattle.mdl_visits.specs.Tables.{MayPinTables, PinsPlaces}
 
 -- ---- the tables stand where the directory says
@@ -110,6 +110,28 @@ pins_more k known xs x found m m′ m″ recorded new there pins pinned =
       did = none_then pins.made (pin ∷ []) [] pins.did refl;
     })
 
+-- ---- the places of a schema's tables
+
+module _ (a b : SeatState) (taken : TakesDirectory a b) (c : SeatState) (same : c ≡ b) where
+  -- the keys that the session knows are those that it knew
+  pub same_known : c.me.0.known ≡ a.me.0.known
+  same_known = ap (λ (m : Mine). m.0.known) (mine same ∙ mine taken.3)
+
+  pub has_there : HasDirectory taken.1 c.me
+  has_there = subst (HasDirectory taken.1) (sym (mine same ∙ mine taken.3)) (has_taken taken.1 (and_made taken.0 a.me))
+
+  pub may_pin_tables : (schema : List ℕ) (tables : List KnownKey) → AreAllTables schema taken.1 tables → MayPinTables taken.1 tables c.me
+  may_pin_tables schema tables are =
+      subst (MayPinTables taken.1 tables) (sym (mine same ∙ mine taken.3)) (record { recorded = refl; known = taken.2.known; stand = all_stand schema taken.1 tables are; in_order = are.in_order })
+
+  pub pins_tables : (d : SeatState) (tables items : List KnownKey) → tables ≡ items → AtItsTable c d (PinsPlaces (unknown c.me.0.known tables))
+      → AtItsTable c d (PinsPlaces (unknown a.me.0.known items))
+  pins_tables d tables items value pins =
+      subst (λ (more : List KnownKey). AtItsTable c d (PinsPlaces more)) (ap (λ (ks : List KnownKey). unknown ks tables) same_known ∙ ap (unknown a.me.0.known) value) pins
+
+  pub may_dismiss_there : (more : List KnownKey) (d : SeatState) → AtItsTable c d (PinsPlaces more) → MayDismiss d.me
+  may_dismiss_there more d pins = (taken.1, subst (HasDirectory taken.1) (sym pins.1.now) (record { recorded = has_there.recorded; carried = has_there.carried }))
+
 -- ---- the directory's latch is given back
 
 module _ (a b : SeatState) (taken : TakesDirectory a b) (more : List KnownKey) (c d : SeatState) (same : c ≡ b) (pins : AtItsTable c d (PinsPlaces more)) where
@@ -130,6 +152,9 @@ module _ (a b : SeatState) (taken : TakesDirectory a b) (more : List KnownKey) (
           (each_map (IsQuiet c.me.0.directory) (HadEither taken.1 taken.1)
           (λ x had. inl (had.0 ∙ ap (λ (m : Mine). m.0.directory) (mine same ∙ mine taken.3), had.1)) pins.1.made pins.1.quiet),
     )
+
+    pub no_pins_steps : more ≡ [] → MakesSteps a.me e.me
+    no_pins_steps none = put_knows_no_more a b taken pins.1.made taken.1 pins.1.idle more d e went_pinning put idle none pins.1.did
 
     pub pinned_steps : MakesSteps (record a.me.0 { known = a.me.0.known ++ more }, a.me.1) e.me
     pinned_steps = put_knows a b taken pins.1.made taken.1 pins.1.idle more d e went_pinning put idle pins.1.did

@@ -6,12 +6,12 @@ use Rattle.mdl_steps.proofs.Looking.{there}
 use Rattle.mdl_steps.proofs.NewKeys.{none_after}
 use Rattle.mdl_steps.specs.declared.slot.Slot.TheVariants as slot
 use Rattle.mdl_system.proofs.Deciding.{key-Decides}
-use Rattle.mdl_visits.proofs.Common.{AllQuiet, AtItsTable, HasDirectory, HasLooked, HasNamed, HoldsNoLatch, IsLookupAnswer, KeyName, Keys, KnownKey, MakesSteps, Mine, PutLatch, ResolveError, SeatState, Slot, StepRecord, TableId, TakeLatch, TakesDirectory, TookDirectory, and_made, consulted, deeds_of, key_at, key_last, latch_word, listing, nil_from_length, option_map, option_to_list, place_among, recorded_key, relisted}
+use Rattle.mdl_visits.proofs.Common.{AllQuiet, AtItsTable, HasDirectory, HasLooked, HasNamed, HoldsNoLatch, IsLookupAnswer, IsPlace, KeyName, Keys, KnownKey, MakesSteps, Mine, PutLatch, ResolveError, SeatState, Slot, StepRecord, TableId, TakeLatch, TakesDirectory, TookDirectory, and_made, consulted, deeds_of, key_at, key_last, latch_word, listing, nil_from_length, option_map, option_to_list, place_among, recorded_key, relisted}
 use Rattle.mdl_visits.proofs.Seats.{mine, table_of}
 use Rattle.mdl_visits.proofs.Steps.{each_append, none_then}
 use Rattle.mdl_visits.specs.FirstWords.{KnowsKeys, is_key_known, is_pinned, key_eq, pins_word, rest}
-use Rattle.mdl_visits.specs.Lookups.{AreInUse, HadEither, LearnsKeyPlace, WasUnused}
-use Rattle.mdl_visits.specs.Prelude.{Each, MayDismiss, Pin, dismissed, is_known, pinned_at}
+use Rattle.mdl_visits.specs.Lookups.{AreInUse, HadEither, HoldsKeys, LearnsKeyPlace, WasUnused}
+use Rattle.mdl_visits.specs.Prelude.{Each, MayDismiss, MayPin, Pin, dismissed, is_known, pinned_at}
 use Rattle.mdl_visits.specs.declared.resolve_error.ResolveError.TheVariants.{NoPlace, OutOfMemory}
 
 -- ---- a session between two calls
@@ -168,6 +168,11 @@ pub learning_one : (k : Keys) (place : ℕ) (key : KeyName) → 0 < place → ke
 learning_one k place key some e = rw (lt-ltb 0 place some) (ap (λ (o : Option KeyName). option_to_list (option_map {T = KeyName} {U = KnownKey} (λ x. record { key = x; place = place }) o)) e)
 
 module _ (a b : SeatState) (taken : TakesDirectory a b) where
+  pub holds_keys : HoldsNoLatch a.me → HoldsKeys taken.1 b
+  holds_keys idle =
+      let has = has_taken taken.1 (and_made taken.0 a.me) in
+      subst (λ (s : SeatState). HoldsKeys taken.1 s) (sym taken.3) (record { has = record { recorded = has.recorded; carried = has.carried }; bare = no_hand a.me idle; alone = no_latches a.me idle; fit = taken.2.fit })
+
   -- steps were made, by which more keys are known
   module _ (within : List StepRecord) (left : Keys) (relies : Option ℕ) (more : List KnownKey) (d e : SeatState)
       (went : d.me ≡ (record b.me.0 { log = b.me.0.log ++ within; directory = Some left; idle = relies; known = b.me.0.known ++ more }, (0, slot.Directory left) ∷ rest b.me.1))
@@ -247,6 +252,24 @@ module _ (key : KeyName) (result : Result ℕ ResolveError) (a b c : SeatState) 
       subst (λ (m : Mine). IfOk result (λ place. is_known place m.0.known ≡ false)) (mine taken.3)
       (looked.apart (subst (λ (m : Mine). KnowsKeys taken.1.keys m.0) (sym (mine taken.3)) taken.2.known) (subst (λ (m : Mine). is_key_known m.0.known key ≡ false) (sym (mine taken.3)) new))
 
+  -- it may be pinned
+  pub may_pin_there : (place : ℕ) → (0 < place) × (place < a.table.slots) × (key_at looked.left.keys place ≡ Some key) → is_pinned place a.me.0 ≡ false
+      → IsPlace c.table place × MayPin place key looked.left c.me
+  may_pin_there place stands new = (
+    subst (λ (id : TableId). IsPlace id place) (sym table_then) (stands.0, stands.1),
+    record {
+      recorded = has_left.recorded;
+      key_is = stands.2;
+      new = ap (λ (m : Mine). is_known place m.0.known) looked.seat ∙ ap (λ (m : Mine). is_known place m.0.known) (mine taken.3) ∙ new;
+    },
+  )
+
+  pub may_dismiss_pinned : (place found : ℕ) (d : SeatState) → d ≡ record c { me = pinned_at place found c.me } → MayDismiss d.me
+  may_dismiss_pinned place found d pinned = (
+    looked.left,
+    subst (HasDirectory looked.left) (sym (mine pinned)) (record { recorded = has_left.recorded; carried = has_left.carried }),
+  )
+
   -- ---- no place was found
 
   module _ (e : SeatState) (put : e ≡ record c { me = dismissed c.me }) (idle : HoldsNoLatch a.me) where
@@ -263,6 +286,7 @@ module _ (key : KeyName) (result : Result ℕ ResolveError) (a b c : SeatState) 
     refused_nothing = put_knows_no_more a b taken looked.made looked.left looked.idle [] c e went_on put idle refl looked.did
 
     pub refused_answer : (k left : Keys) × (took : AtItsTable a e (TookDirectory a.table.slots k left)) × IsLookupAnswer a.table.slots key k left took.1.within result
+    unfolding put_took looked
     refused_answer = (
       taken.1,
       looked.left,
@@ -301,6 +325,7 @@ module _ (key : KeyName) (result : Result ℕ ResolveError) (a b c : SeatState) 
     )
 
     pub found_answer : (k left : Keys) × (took : AtItsTable a e (TookDirectory a.table.slots k left)) × IsLookupAnswer a.table.slots key k left took.1.within result
+    unfolding put_took looked
     found_answer = (
       taken.1,
       looked.left,
