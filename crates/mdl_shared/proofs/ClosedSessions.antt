@@ -75,7 +75,7 @@ module _ {s : SessionView} (is : IsMember s) (nothing : HasNoLocks s) (slow : s.
         pinned = refl;
         apart = refl;
         settled = is.sound.settled;
-        noted = is.sound.noted;
+        noted = λ place version noted. let none : None ≡ Some version = sym (ap (noted_at place) notes-none) ∙ noted in absurd (cc);
         newest = is.sound.newest;
         fits = λ place version standing noted read.
             let none : None ≡ Some version = sym (ap (noted_at place) notes-none) ∙ noted in absurd (cc);

@@ -41,7 +41,7 @@ invariant_of-result-clause-empty g c =
 pub invariant_of-result-clause-paid : goal.invariant_of-result-clause-paid
 invariant_of-result-clause-paid g c =
     let m = c.self.inside.member in
-    none-owed m.seat.me.0.owes (λ q. sym (m.owed q) ∙ (rw c.in_default.is at c.first_owed.ensures) q)
+    ap (λ (x : Mine). x.0.owes) c.unpin_all.ensures.unpinned.1.1 ∙ none-owed m.seat.me.0.owes (λ q. sym (m.owed q) ∙ (rw c.in_default.is at c.first_owed.ensures) q)
 
 pub returns-in-Some : goal.returns-in-Some
 returns-in-Some g c =
@@ -54,3 +54,12 @@ returns-in-Some g c =
       (member m).owed c.in-Some.place (sym (m.owed c.in-Some.place) ∙ first.1),
       refl,
     )
+
+pub returns : goal.returns
+returns g c =
+    let m = c.self.inside.member in
+    let none = nothing-left m (eqb-true (length (interleaved m.tickets.slow m.tickets.fast)) 0 (sym c.is_empty.ensures ∙ c.if-not-is_empty.false)) (sym c.is_some.ensures ∙ c.if-is_some.false) in
+    let paid = none-owed m.seat.me.0.owes (λ q. sym (m.owed q) ∙ (rw c.in_default.is at c.first_owed.ensures) q) in
+    let did = c.unpin_all.ensures in
+    let made = did.unpinned.1.0 in
+    rw (← c.self.view_is) (none.0, paid, (made, closed-view m c.unpin_all.new.seat c.unpin_all.new.known.pins made did.unpinned.0 did.unpinned.1.1 did.pins, did.unpinned.1.2))

@@ -20,14 +20,14 @@ pin_unknown-requires g c =
     record {
       known = same_known a b taken l same.0 ∙ c.requires.known ∙ sym same.1;
       may = (taken.1, subst (λ (ts : List KnownKey). MayPinTables taken.1 ts l.me) (sym c.deref.ensures.value) may);
-      within = subst (λ (s : SeatState). AreWithin s.table.slots c.deref.result) (sym (same.0 ∙ taken.3)) (subst (AreWithin a.table.slots) (sym c.deref.ensures.value) within);
+      within = subst (λ (s : SeatState). AreWithin s.table.slots c.deref.result.now) (sym (same.0 ∙ taken.3)) (subst (AreWithin a.table.slots) (sym c.deref.ensures.value) within);
     }
 
 pub put_directory-requires : goal.put_directory-requires
 put_directory-requires g c =
     let l : SeatState = c.list_tables.new.seat in
     record {
-      put = may_dismiss_there c.args.seat.now c.await_directory-directory.new.seat c.await_directory-directory.ensures.taken l c.list_tables.ensures.same.0 (unknown l.me.0.known c.deref.result)
+      put = may_dismiss_there c.args.seat.now c.await_directory-directory.new.seat c.await_directory-directory.ensures.taken l c.list_tables.ensures.same.0 (unknown l.me.0.known c.deref.result.now)
           c.pin_unknown.new.seat c.pin_unknown.ensures.pinned;
     }
 
@@ -48,7 +48,7 @@ returns-in-Ok-clause-found g c =
     let has = subst (λ (m : Mine). HasDirectory taken.1 m) (sym (mine taken.3)) (has_taken taken.1 (and_made taken.0 a.me)) in
     let tables : List KnownKey = c.in-Ok.found.0.items in
     let more : List KnownKey = unknown a.me.0.known tables in
-    let pins = pins_tables a b taken l c.list_tables.ensures.same.0 d c.deref.result tables c.deref.ensures.value c.pin_unknown.ensures.pinned in (
+    let pins = pins_tables a b taken l c.list_tables.ensures.same.0 d c.deref.result.now tables c.deref.ensures.value c.pin_unknown.ensures.pinned in (
       taken.1,
       took_tables a b taken more l d c.list_tables.ensures.same.0 pins e c.put_directory.ensures.made c.requires.free.idle,
       (
