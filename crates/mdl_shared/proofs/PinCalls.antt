@@ -125,12 +125,12 @@ module _ {s : SessionView} (is : IsMember s) (place : ℕ) where
           own = refl;
           numbers = refl;
           explained = (pinned, free.0, free.1);
-          learns = refl;
+          learns = inl refl;
           agreed = λ state how met. cc;
           told = λ how told. cc;
           settled = keeps-settled s (without_pin place s) (sees-same s (without_pin place s) refl refl refl);
           reads = reads-nothing (data_of s) (data_of (without_pin place s)) refl refl;
-          truly = tt;
+          truly = inl refl;
         }
 
     pub unpin-shows : Shows (Unpin s.me.0.number place) Done s (without_pin place s)
