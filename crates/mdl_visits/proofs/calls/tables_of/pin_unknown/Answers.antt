@@ -1,5 +1,5 @@
 -- The place of the next table is pinned if the session doesn't know the table.
-use Rattle.std.proofs.Common.{◌≡◌, ℕ, ◌<◌, List, length, not, true, false, get_or, is_some, refl, sym, ap, ◌∙◌, subst}
+use Rattle.std.proofs.Common.{◌≡◌, ℕ, ◌<◌, List, length, not, get_or, is_some, refl, sym, ap, ◌∙◌, subst}
 use Rattle.mdl_key.specs.KeyLookups.{place_known}
 use Rattle.mdl_visits.proofs.Lemmas.{KnownKey, SeatState, TableId}
 use Rattle.mdl_visits.proofs.Listing.{known_next, may_pin, pinned_next, pins_none}
