@@ -1,11 +1,11 @@
 -- The key of a place is forgotten: the keys behind it have the next lower indexes.
-use Rattle.std.proofs.Common.{◌≡◌, ◌≢◌, ℕ, zero, suc, ◌+◌, ◌-◌, ◌<◌, ◌≤◌, ◌==◌, ◌||◌, not, Bool, true, false, List, [], ◌∷◌, ◌++◌, length, get_or, set, map, remove, filter, slice_get, Option, Some, None, refl, sym, ap, ◌∙◌, subst, inl, inr, arith, nat_lt, ltb-true, ltb-false, lt-ltb, le-ltb, eq-eqb, eqb-true, length-set}
+use Rattle.std.proofs.Common.{◌≡◌, ◌≢◌, ℕ, zero, suc, ◌+◌, ◌<◌, ◌≤◌, ◌==◌, ◌||◌, Bool, true, false, List, [], ◌∷◌, length, get_or, set, map, remove, slice_get, Some, refl, sym, ap, ◌∙◌, subst, inl, inr, arith, nat_lt, ltb-true, ltb-false, lt-ltb, le-ltb, eq-eqb, eqb-true}
 use Rattle.std.proofs.lemmas.Bool.{cases_eq}
 use Rattle.std.proofs.lemmas.Option.{slice_get-get_or, slice_get_within}
 use Rattle.mdl_steps.specs.Pins.{but_known}
-use Rattle.mdl_visits.proofs.Common.{KeyName, Kind, KnownKey, by_bool, is_known, kind_known, option_map}
-use Rattle.mdl_visits.proofs.KeyLists.{get_other, get_set, kind_place, kinds_marked, known_entry, pins_marked}
-use Rattle.mdl_visits.specs.OwnKeys.{AreBehind, AreIndexed, AreKinds, ArePinsKnown, index_before, kind_marked, known_of, unpinned}
+use Rattle.mdl_visits.proofs.Common.{KeyName, KnownKey, by_bool, is_known, kind_known}
+use Rattle.mdl_visits.proofs.KeyLists.{get_other, get_set, kind_place, kinds_marked, known_entry}
+use Rattle.mdl_visits.specs.OwnKeys.{AreBehind, AreIndexed, AreKinds, ArePinsKnown, index_before, known_of, unpinned}
 use Rattle.mdl_visits.specs.declared.known_keys.Mark.{Mark}
 
 -- ---- indexes

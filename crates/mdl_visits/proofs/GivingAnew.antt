@@ -1,15 +1,15 @@
 -- A place is given anew: what is met at places that are in use, and what the seat has after the first place that nobody uses got another key.
-use Rattle.std.proofs.Common.{◌≡◌, ◌≢◌, ℕ, zero, suc, ◌+◌, ◌-◌, ◌<◌, ◌≤◌, ◌==◌, not, true, false, List, [], ◌∷◌, ◌++◌, length, set, Contains, Some, None, refl, sym, ap, ◌∙◌, subst, inl, inr, arith, append_assoc, append-nil, Option, Ok, Err, slice_get, eq-eqb, is_some}
+use Rattle.std.proofs.Common.{◌≡◌, ◌≢◌, ℕ, zero, suc, ◌+◌, ◌-◌, ◌<◌, ◌≤◌, ◌==◌, not, false, List, [], ◌∷◌, ◌++◌, length, set, Contains, Some, None, refl, sym, ap, ◌∙◌, subst, inl, inr, arith, append_assoc, append-nil, Ok, Err, slice_get, eq-eqb}
 use Rattle.std.proofs.lemmas.List.{append_cancel_left}
 use Rattle.std.proofs.lemmas.List.Elements.{Contains-append_left, Contains-append_right}
-use Rattle.mdl_steps.proofs.Lemmas.{held_at-first, key_last}
+use Rattle.mdl_steps.proofs.Lemmas.{held_at-first}
 use Rattle.mdl_steps.specs.declared.slot.Slot.TheVariants as slot
-use Rattle.mdl_system.proofs.OrderLemmas.{Contains-cons_cases, Contains-here, Contains-later}
+use Rattle.mdl_system.proofs.OrderLemmas.{Contains-here, Contains-later}
 use Rattle.mdl_system.proofs.Deciding.{nat_told}
-use Rattle.mdl_visits.proofs.Common.{AllQuiet, AtItsTable, BookView, Each, HadEither, HasDirectory, HasLooked, HasStep, IsFresh, IsPlace, IsQuiet, IsRising, IsStepOf, KeyName, Keys, LatchRecord, MakesQuietSteps, MayPut, MayVisit, Mine, PutLatch, SeatState, Slot, StepRecord, TableId, TakeLatch, TakesLatch, TellsLists, and_made, deeds_of, empty_book, filter, has_obtrusive, has_tickets, held_at, key_at, latch_word, latched, option_map, place_among, relisted, unlatched}
+use Rattle.mdl_visits.proofs.Common.{AllQuiet, AtItsTable, BookView, Each, HadEither, HasDirectory, HasLooked, IsFresh, IsPlace, IsQuiet, IsRising, IsStepOf, KeyName, Keys, LatchRecord, MayPut, MayVisit, Mine, PutLatch, SeatState, Slot, StepRecord, TableId, TakeLatch, TakesLatch, and_made, deeds_of, empty_book, filter, has_obtrusive, has_tickets, held_at, latch_word, latched, option_map, place_among, relisted, unlatched}
 use Rattle.mdl_visits.proofs.Gathering.{back_steps, gives_back, as_reads, no_steps}
-use Rattle.mdl_visits.proofs.Lookups.{in_use_more, unused_more}
-use Rattle.mdl_visits.proofs.Seats.{mine, table_of}
+use Rattle.mdl_visits.proofs.Lookups.{in_use_more}
+use Rattle.mdl_visits.proofs.Seats.{mine}
 use Rattle.mdl_visits.proofs.Steps.{each_append, each_map, none_then}
 use Rattle.mdl_visits.specs.FirstWords.{ReadVersion, exchanging, is_pinned, pins_word, rest, version_word}
 use Rattle.mdl_visits.specs.Lookups.{AreInUse, HasGiven, HoldsKeys, IsUsed, MayGiveAnew, MeetsUse, PassesOver, TakesUnused, WasInUse, WasUnused, and_idle}

@@ -1,11 +1,11 @@
 -- What a session has after it asked the directory for the tables of a schema.
-use Rattle.std.proofs.Common.{◌≡◌, ℕ, zero, suc, ◌+◌, ◌-◌, ◌<◌, ◌==◌, not, true, false, List, [], ◌∷◌, ◌++◌, All, AllPairs, length, take, get_or, None, Some, refl, sym, ap, ◌∙◌, subst, inl, arith, append_assoc, append-nil, Option, is_some}
+use Rattle.std.proofs.Common.{◌≡◌, ℕ, zero, suc, ◌+◌, ◌-◌, ◌<◌, not, true, false, List, [], ◌∷◌, ◌++◌, All, AllPairs, length, take, get_or, None, Some, refl, sym, ap, ◌∙◌, subst, inl, arith, append_assoc, append-nil, Option, is_some}
 use Rattle.std.proofs.lemmas.List.{take_more}
 use Rattle.std.proofs.lemmas.List.Elements.{All-tail, All-take, filter-append}
 use Rattle.std.proofs.lemmas.List.Folds.{list_any-append}
 use Rattle.mdl_steps.proofs.Lemmas.{by_bool}
 use Rattle.mdl_steps.specs.declared.slot.Slot.TheVariants as slot
-use Rattle.mdl_visits.proofs.FirstLemmas.{All-weaker, AllQuiet, AreAllTables, AreWithin, AtItsTable, Each, HadEither, HasDirectory, HoldsNoLatch, IsQuiet, KeyName, Keys, KnownKey, MakesSteps, Mine, SeatState, StandThere, StaysQuiet, StepRecord, TakesDirectory, TookDirectory, and_made, consulted, deeds_of, dismissed, each_append, each_map, given_back, has_taken, key_at, mine, none_then, some_there, table_of, unknown}
+use Rattle.mdl_visits.proofs.FirstLemmas.{All-weaker, AllQuiet, AreAllTables, AreWithin, AtItsTable, Each, HadEither, HasDirectory, HoldsNoLatch, IsQuiet, KeyName, Keys, KnownKey, MakesSteps, Mine, SeatState, StandThere, StaysQuiet, StepRecord, TakesDirectory, TookDirectory, and_made, consulted, dismissed, each_append, each_map, given_back, has_taken, key_at, mine, none_then, some_there, table_of, unknown}
 use Rattle.mdl_visits.proofs.Sorting.{key-ties}
 use Rattle.mdl_visits.proofs.Lookups.{IsThere, learning_one, put_knows, put_knows_no_more, put_took, unknown_there}
 use Rattle.mdl_visits.specs.FirstWords.{Less, is_eq, is_key_known, key_cmp, key_eq, pins_word, rest}

@@ -1,5 +1,5 @@
 -- A session unpins a place: it knows one key less, and goes on.
-use Rattle.std.proofs.Common.{◌≡◌, ◌≢◌, ℕ, zero, suc, ◌+◌, ◌<◌, ◌≤◌, ◌==◌, not, Bool, true, false, All, List, [], ◌∷◌, ◌++◌, length, filter, map, slice_get, Some, refl, sym, ap, ◌∙◌, subst, arith, append_assoc, eqb-true, eq-eqb}
+use Rattle.std.proofs.Common.{◌≡◌, ℕ, zero, suc, ◌<◌, ◌≤◌, ◌==◌, not, true, List, [], ◌∷◌, ◌++◌, length, map, slice_get, Some, refl, sym, ap, ◌∙◌, subst, arith, append_assoc, eqb-true, eq-eqb}
 use Rattle.std.proofs.lemmas.List.Elements.{All-filter, All-head, All-tail}
 use Rattle.mdl_steps.specs.PinPlays.{unpinned_at}
 use Rattle.mdl_steps.specs.Layout.{pins_word}
@@ -10,7 +10,7 @@ use Rattle.mdl_visits.proofs.Steps.{none_then}
 use Rattle.mdl_visits.specs.OwnKeys.{known_of}
 use Rattle.mdl_visits.specs.Tables.{AreWithin}
 use Rattle.mdl_visits.specs.Unpinnings.{UnpinsTo}
-use Rattle.mdl_visits.specs.Visits.{AllQuiet, IsQuiet, deeds_of}
+use Rattle.mdl_visits.specs.Visits.{IsQuiet}
 
 -- ---- known keys
 

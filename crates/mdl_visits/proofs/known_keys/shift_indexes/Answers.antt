@@ -1,5 +1,5 @@
 -- Each key from the first one on has its index under its place, one too high, and lowers it.
-use Rattle.std.proofs.Common.{◌≡◌, ◌∙◌, ◌+◌, ◌-◌, ◌*◌, ◌<◌, ◌≤◌, ℕ, Some, length, length-set, set, get_or, slice_get, refl, sym, ap, subst, arith, Fits, w64}
+use Rattle.std.proofs.Common.{◌≡◌, ◌∙◌, ◌+◌, ◌-◌, ℕ, Some, length-set, set, get_or, slice_get, refl, sym, ap, subst, arith}
 use Rattle.std.specs.Map.Iter.{deref_pair}
 use Rattle.mdl_visits.proofs.Common.{option_map}
 use Rattle.mdl_visits.proofs.Forgetting.{behind_here, behind_next, behind_none, value_there}

@@ -1,6 +1,7 @@
 -- One place is looked at after the other, until one isn't in use. That one gets the key.
-use Rattle.std.proofs.Common.{◌≡◌, ℕ, ◌+◌, ◌<◌, ◌≤◌, None, Some, Option, MatchOption, refl, sym, ap, ◌∙◌, subst, arith}
-use Rattle.mdl_visits.proofs.Lemmas.{SeatState, exchanging}
+use Rattle.std.proofs.Common.{ℕ, ◌<◌, refl, ◌∙◌, subst, arith}
+use Rattle.mdl_visits.proofs.Lemmas.{SeatState}
+use Rattle.mdl_visits.specs.FirstWords.{exchanging}
 use Rattle.mdl_visits.proofs.GivingAnew.{anew, anew_refused, has_record, may_anew, may_look, nowhere, passes_none, passes_one}
 use Rattle.mdl_visits.specs.Lookups.{HasGiven}
 use Rattle.mdl_visits.proofs.calls.resolve.place_anew.Goals as goal

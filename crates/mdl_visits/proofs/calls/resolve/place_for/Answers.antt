@@ -90,5 +90,5 @@ returns-in-Err g c = record {
       let count = c.key_count-place.ensures.told k (subst (λ (s : SeatState). HasDirectory k s.me) (sym found) has).carried in
       let slots = ap (λ (s : SeatState). s.table.slots) found in
       let many = c.slot_count-slots.ensures in
-      found_nowhere c.args.key.now OutOfMemory k c.args.seat.now c.name_key.new.seat has (none, (refl, inl (omega arith))) (c.in-Err.ensures.unchanged ∙ c.key_count-place.ensures.same ∙ found);
+      found_nowhere c.args.key.now OutOfMemory k c.args.seat.now c.name_key.new.seat has (none, refl, inl (omega arith)) (c.in-Err.ensures.unchanged ∙ c.key_count-place.ensures.same ∙ found);
 }

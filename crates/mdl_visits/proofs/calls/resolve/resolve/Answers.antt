@@ -1,6 +1,5 @@
 -- The session pins the place of the key, which stands there by the directory's record.
-use Rattle.std.specs.Prelude.{Result}
-use Rattle.mdl_visits.proofs.Lemmas.{Err, Ok, SeatState, found_answer, found_idle, found_knows, holds_keys, looked, may_dismiss_looked, may_dismiss_pinned, may_pin_there, refl, refused_answer, refused_idle, refused_nothing, unpinned_yet}
+use Rattle.mdl_visits.proofs.Lemmas.{Err, Ok, SeatState, found_answer, found_idle, found_knows, holds_keys, looked, may_dismiss_looked, may_dismiss_pinned, may_pin_there, refused_answer, refused_idle, refused_nothing, unpinned_yet}
 use Rattle.mdl_visits.proofs.calls.resolve.resolve.Goals as goal
 
 pub place_for-requires : goal.place_for-requires

@@ -1,6 +1,6 @@
 -- The tables are those of the directory's record, and the session pins the places of those that it doesn't know before the latch is given back.
-use Rattle.std.proofs.Common.{◌≡◌, List, [], refl, sym, ap, ◌∙◌, subst}
-use Rattle.mdl_visits.proofs.Lemmas.{HasDirectory, KnownKey, Mine, SeatState, StandThere, all_stand, all_within, and_made, are_tables, has_taken, mine, unknown}
+use Rattle.std.proofs.Common.{List, [], refl, sym, ◌∙◌, subst}
+use Rattle.mdl_visits.proofs.Lemmas.{HasDirectory, KnownKey, Mine, SeatState, all_stand, all_within, and_made, are_tables, has_taken, mine, unknown}
 use Rattle.mdl_visits.proofs.Listing.{has_there, may_dismiss_there, may_pin_tables, no_pins_steps, pinned_steps, pins_none, pins_tables, same_known, took_tables}
 use Rattle.mdl_visits.specs.Tables.{AreWithin, MayPinTables}
 use Rattle.mdl_visits.proofs.calls.tables_of.find_tables.Goals as goal

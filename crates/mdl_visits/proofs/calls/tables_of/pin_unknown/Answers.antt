@@ -1,8 +1,8 @@
 -- The place of the next table is pinned if the session doesn't know the table.
-use Rattle.std.proofs.Common.{◌≡◌, ℕ, ◌<◌, List, length, not, true, false, get_or, is_some, sym, ap, ◌∙◌, subst}
+use Rattle.std.proofs.Common.{◌≡◌, ℕ, ◌<◌, List, length, not, get_or, is_some, refl, sym, ap, ◌∙◌, subst}
 use Rattle.mdl_key.specs.KeyLookups.{place_known}
 use Rattle.mdl_visits.proofs.Lemmas.{KnownKey, SeatState, TableId}
-use Rattle.mdl_visits.proofs.Listing.{known_next, may_pin, pinned_next}
+use Rattle.mdl_visits.proofs.Listing.{known_next, may_pin, pinned_next, pins_none}
 use Rattle.mdl_visits.specs.FirstWords.{IsPlace}
 use Rattle.mdl_visits.specs.Prelude.{MayPin, pinned_at}
 use Rattle.mdl_visits.proofs.calls.tables_of.pin_unknown.Goals.{else-is_none, then-is_none}
@@ -25,6 +25,9 @@ pin_place-requires c =
       place = subst (λ (t : KnownKey). IsPlace b.table t.place) (sym is) (subst (λ (id : TableId). IsPlace id (get_or tables i table).place) (sym inv.0) (c.requires.within i table inside));
       pin = (table.key, may.0, subst (λ (t : KnownKey). MayPin t.place t.key may.0 b.me) (sym is) (may_pin may.0 known tables a may.1 c.requires.known i table inside b inv none));
     }
+
+pub loop-table-init : goal.loop-table-init
+loop-table-init c = (refl, pins_none c.args.seat.now.me.0.known c.args.seat.now.me)
 
 pub loop-table-preserved : goal.loop-table-preserved
 loop-table-preserved c =

@@ -1,5 +1,5 @@
 -- The place of a known key is pinned, and there is one such place less then.
-use Rattle.std.proofs.Common.{◌≡◌, ◌∙◌, ◌<◌, ℕ, List, length, sym, ap, subst}
+use Rattle.std.proofs.Common.{◌∙◌, ◌<◌, List, length, sym, ap, subst}
 use Rattle.mdl_calls.specs.SessionLocks.{without_place}
 use Rattle.mdl_steps.specs.Pins.{HasNothingAt, but_known}
 use Rattle.mdl_visits.proofs.Common.{KnownKey, SeatState, is_known}

@@ -1,14 +1,11 @@
 -- The key stands at its index under its place, and those behind it get the next lower ones.
-use Rattle.std.proofs.Common.{◌≡◌, ◌∙◌, ◌<◌, ◌≤◌, ℕ, true, List, Some, length, length-set, map, remove, set, slice_get, refl, sym, ap, subst, arith}
-use Rattle.std.proofs.lemmas.Option.{slice_get-get_or, slice_get_within}
-use Rattle.mdl_steps.specs.Pins.{but_known}
-use Rattle.mdl_visits.proofs.Common.{KeyName, KnownKey, is_known}
+use Rattle.std.proofs.Common.{◌≡◌, ◌∙◌, ◌≤◌, ℕ, true, List, Some, length, length-set, map, set, slice_get, refl, sym, ap, subst, arith}
+use Rattle.std.proofs.lemmas.Option.{slice_get-get_or}
+use Rattle.mdl_visits.proofs.Common.{KeyName, is_known}
 use Rattle.mdl_visits.proofs.Forgetting.{behind_removed, kinds_left, known_left, pins_left}
 use Rattle.mdl_visits.proofs.KeyLists.{mark_within, place_within}
 use Rattle.mdl_visits.proofs.Pins.{pins_less}
 use Rattle.mdl_visits.specs.OwnKeys.{AreBehind, AreIndexed, AreKinds, ArePinsKnown, IsNarrow, known_of, unpinned}
-use Rattle.mdl_visits.specs.declared.known_keys.KnownKeys.TheInside.{Inside}
-use Rattle.mdl_visits.specs.declared.known_keys.Mark.{Mark}
 use Rattle.std.proofs.lemmas.List.{with_items_is}
 use Rattle.mdl_visits.proofs.known_keys.KnownKeys.forget.Goals as goal
 
