@@ -1,12 +1,12 @@
 -- The end of a pin, and the places that a session's own list shows to be pinned.
 use Rattle.std.proofs.Common.{◌≡◌, ◌≢◌, ℕ, ◌<◌, ◌==◌, ◌&&◌, nat_lt, not, Bool, true, false, List, [], ◌∷◌, map, length, filter_map, is_some, Contains, Option, Some, None, inl, inr, refl, sym, ap, subst, ◌∙◌, append-nil, append_assoc, eq-eqb, eqb-true, arith}
-use Rattle.mdl_steps.specs.Cells.{pins_word, version_word}
+use Rattle.mdl_steps.specs.Layout.{pins_word, version_word}
 use Rattle.mdl_steps.specs.PinPlays.{unpinned_at}
 use Rattle.mdl_steps.specs.Pins.{HasNothingAt, but_known}
 use Rattle.mdl_steps.specs.VersionPlays.{met_version}
 use Rattle.mdl_steps.specs.declared.step_kind.StepKind.TheVariants as step
 use Rattle.mdl_visits.specs.Visits.{AllQuiet, and_made, deeds_of}
-use Rattle.mdl_shared.proofs.Common.{Kind, KnownKey, all-among, and_from, and_parts, are_counted, are_within, increment_at, increment_of, is_known, kind_known, list_any, not_from_false, not_from_true, note_of, option_and_then, session_at}
+use Rattle.mdl_shared.proofs.Common.{Kind, KnownKey, all-among, and_from, and_parts, are_counted, are_within, increment_at, increment_of, is_known, kind_known, list_any, not-true, not_from_true, note_of, option_and_then, session_at}
 use Rattle.mdl_shared.proofs.SpaceNotes.{note-there, noted_under}
 use Rattle.mdl_shared.proofs.TicketOrder.{all-parts}
 use Rattle.mdl_shared.proofs.FirstLemmas.{Ask, AwaitsAt, Contains-here, Contains-later, Done, Held, HoldsAt, InUse, IsMember, IsOwed, Joins, Lists, Member, Mine, NoPlace, Refused, SeatState, SessionTicket, SessionView, Shows, SpaceError, StaysInOrder, StepRecord, Unpin, as_held, asks_at, by_bool, data_of, does-nothing, false≢true, fast-pinned, has_pin, has_ticket_at, held-seen, interleaved, is_used, keeps-same, keeps-settled, list_all, lists_seen, member, nat_tests, numbered, own_at, reads-nothing, refused, same-stays, sees-same, speaks, ticket-pinned, tickets_seen, view_of, wait_by, without_place}
@@ -98,7 +98,7 @@ counted-left gone known (t ∷ ts) none counted =
     let there = and_parts (not (t.place == gone)) (list_all (λ (u : SessionTicket). not (u.place == gone)) ts) none in
     let parts = and_parts (is_some (increment_at t.place t.mode known)) (are_counted known ts) counted in
     and_from (is_some (increment_at t.place t.mode (but_known gone known))) (are_counted (but_known gone known) ts)
-        (ap (λ (o : Option Kind). is_some (option_and_then (λ kind. increment_of kind t.mode) o)) (kind-left gone t.place known (not_from_false (t.place == gone) there.0)) ∙ parts.0)
+        (ap (λ (o : Option Kind). is_some (option_and_then (λ kind. increment_of kind t.mode) o)) (kind-left gone t.place known (not-true (t.place == gone) there.0)) ∙ parts.0)
         (counted-left gone known ts there.1 parts.1)
 
 -- ---- the end of a pin
@@ -121,8 +121,8 @@ pub gone-view : (m : Member) (place found : ℕ) {seat′ : SeatState} {pins : L
 gone-view m place found table me pins = λ i. record { table = table i; sessions = m.sessions; me = me i; room = m.tickets.room; pins = pins i }
 
 -- no steps
-pub made-none : (m : Mine) → m ≡ and_made [] m
-made-none m = ap (λ (log : List StepRecord). (record m.0 { log = log }, m.1)) (sym (append-nil m.0.log))
+pub made-nothing : (m : Mine) → m ≡ and_made [] m
+made-nothing m = ap (λ (log : List StepRecord). (record m.0 { log = log }, m.1)) (sym (append-nil m.0.log))
 
 -- whether it is, by the session's view
 abbrev pub used_at : ℕ → SessionView → Bool
@@ -258,10 +258,10 @@ module _ {s : SessionView} (is : IsMember s) (place : ℕ) where
 
     -- with its key forgotten
     module _ (found : ℕ) where
-      look : StepRecord
+      abbrev look : StepRecord
       look = record { kind = step.ReadVersion; deeds = []; word = version_word place; found = 0; held = s.me.0.latches; directory = s.me.0.directory }
 
-      left : StepRecord
+      abbrev left : StepRecord
       left = record { kind = step.Unpin; deeds = []; word = pins_word place; found = found; held = s.me.0.latches; directory = s.me.0.directory }
 
       pub gone-joins : Joins (data_of s) (Unpin s.me.0.number place) Done (data_of (gone_from place found s))
