@@ -4,8 +4,10 @@ use Rattle.mdl_calls.proofs.MappedLists.{pairs-map}
 use Rattle.mdl_key.specs.declared.namespace.Namespace.TheVariants as of
 use Rattle.std.proofs.lemmas.List.Kept.{AllPairs-filter}
 use Rattle.std.specs.Str.{bytes_eq}
-use Rattle.mdl_shared.proofs.FirstLemmas.{All-cons, All-filter, All-head, All-map, All-nil, All-tail, All-weaker, AreAllTables, AreLearnt, AreWithin, Asked, AtItsTable, At_place, DidDeeds, HasAsked, IsDirectoryTable, IsMember, Joins, KeepsRoom, KeyName, Keys, KnownKey, LearnsAt, LearnsTables, Less, Lists, MakesSteps, Member, Mine, Namespace, NoPlace, OutOfMemory, Refused, Resolve, Room, SeatState, SessionView, Shows, Stays, StaysInOrder, StaysQuiet, StepRecord, Tables, Tables_of, TookDirectory, and_made, are_apart, asked_after, asked_places, counted_and, data_of, does_steps, does_then, get_or-map, goes_on, is_known, is_of_tables, is_of_tables_told, is_table_of, is_table_told, keeps-settled, key_cmp, key_known, keys-apart, knowing_all, knowing_key, length-map, lists_seen, nat_tests, no_record, none_then, place-of_key, place_known, reads-nothing, refused, same-debts, sees-same, session_at, speaks, stays-known, took_earlier, unknown, view_of, visited, with_place, within_and}
+use Rattle.mdl_shared.proofs.FirstLemmas.{All-cons, All-filter, All-head, All-map, All-nil, All-tail, All-weaker, AreAllTables, AreLearnt, AreWithin, Asked, AtItsTable, At_place, DidDeeds, HasAsked, IsDirectoryTable, IsMember, Joins, KeepsRoom, KeyName, Keys, KnownKey, LearnsAt, LearnsTables, Less, Lists, MakesSteps, Member, Mine, Namespace, NoPlace, OutOfMemory, Refused, Resolve, Room, SeatState, SessionView, Shows, SpaceError, Stays, StaysInOrder, StaysQuiet, StepRecord, Tables, Tables_of, TookDirectory, and_made, are_apart, asked_after, asked_places, counted_and, data_of, does_steps, does_then, get_or-map, goes_on, is_known, is_of_tables, is_of_tables_told, is_table_of, is_table_told, keeps-same, keeps-settled, key_cmp, key_known, keys-apart, knowing_all, knowing_key, length-map, lists_seen, nat_tests, no_record, none_then, place-of_key, place_known, reads-nothing, refused, same-debts, sees-same, session_at, speaks, stays-known, took_earlier, unknown, view_of, visited, with_place, within_and}
 use Rattle.mdl_shared.proofs.KnownKeys.{all_learnt, apart_and}
+use Rattle.mdl_shared.specs.AllSteps.{steps_of}
+use Rattle.mdl_shared.specs.Steps.{LooksUp}
 
 -- ---- a session that learns keys
 
@@ -164,6 +166,44 @@ resolved seat seat′ sessions place key knows table =
       All-cons inside one [] (knows.0, knows.1) (All-nil inside),
       knows.3,
     )
+
+-- ---- what the look-up shows
+
+-- a key that it doesn't know is refused
+pub refused-shows : (seat seat′ : SeatState) (sessions : ℕ) {room : Room} {pins : List ℕ} (key : KeyName) (why : SpaceError) → seat′.table ≡ seat.table → MakesSteps seat.me seat′.me
+    → (steps_of (Resolve seat.me.0.number key)).met (Refused why) (lists_seen seat.me.0) (session_at seat sessions room pins) (session_at seat′ sessions room pins)
+    → Shows (Resolve seat.me.0.number key) (Refused why) (session_at seat sessions room pins) (session_at seat′ sessions room pins)
+refused-shows seat seat′ sessions {room} {pins} key why table steps met = record {
+  table = table;
+  sessions = refl;
+  refused = tt;
+  did = does_steps seat.me seat′.me steps;
+  settled = ap (λ (m : Mine). m.0.settles) steps.1;
+  told = ap (λ (m : Mine). m.0.told) steps.1;
+  met = met;
+  room = keeps-same room;
+  debts = same-debts (session_at seat sessions room pins) (session_at seat′ sessions room pins) (ap (λ (m : Mine). m.0.owes) steps.1);
+  owes = (ap (λ (m : Mine). m.0.owes) steps.1, ap (λ (m : Mine). m.0.searches) steps.1);
+}
+
+-- or it has a place, and the session pins it
+pub learnt-shows : (seat seat′ : SeatState) (sessions place : ℕ) {room : Room} {pins : List ℕ} (key : KeyName) → seat′.table ≡ seat.table
+    → ((0 < place) × (place < seat.table.slots) × MakesSteps (knowing_key (record { key = key; place = place }) seat.me) seat′.me × (is_known place seat.me.0.known ≡ false))
+    → place_known key seat.me.0.known ≡ None → LooksUp key (Ok place) (session_at seat sessions room pins) (session_at seat′ sessions room pins)
+    → Shows (Resolve seat.me.0.number key) (At_place place) (session_at seat sessions room pins) (session_at seat′ sessions room (with_place place pins))
+learnt-shows seat seat′ sessions place {room} {pins} key table knows none looks =
+    let steps = knows.2 in record {
+      table = table;
+      sessions = refl;
+      refused = tt;
+      did = does_steps (knowing_key (record { key = key; place = place }) seat.me) seat′.me steps;
+      settled = ap (λ (m : Mine). m.0.settles) steps.1;
+      told = ap (λ (m : Mine). m.0.told) steps.1;
+      met = (knows.0, knows.1, (λ known its. let e : None ≡ Some known = sym none ∙ its in absurd (cc)), λ new. looks);
+      room = keeps-same room;
+      debts = same-debts (session_at seat sessions room pins) (session_at seat′ sessions room (with_place place pins)) (ap (λ (m : Mine). m.0.owes) steps.1);
+      owes = (ap (λ (m : Mine). m.0.owes) steps.1, ap (λ (m : Mine). m.0.searches) steps.1);
+    }
 
 -- ---- tables
 

@@ -29,7 +29,11 @@ impl<R: Drop> Session<R> {
             return Err(CloseError::Owes(self, place as Place));
         }
         let Session { rt: _, mut member } = self;
-        unpin_all(&mut member.seat, &mut member.known);
+        let mut seat = member.seat;
+        let mut known = member.known;
+        unpin_all(&mut seat, &mut known);
+        member.seat = seat;
+        member.known = known;
         Ok(Pass { member })
     }
 }

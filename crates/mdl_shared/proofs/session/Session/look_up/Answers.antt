@@ -1,9 +1,11 @@
 -- The place of a key by the directory.
-use Rattle.std.proofs.Common.{◌≡◌, ◌≤◌, ℕ, List, [], ◌∷◌, ◌++◌, None, inr, refl, sym, ap, subst, ◌∙◌, arith}
-use Rattle.mdl_shared.proofs.Lemmas.{At_place, IsMember, Joins, KeyName, KnownKey, Lists, NoPlace, OutOfMemory, Refused, Resolve, SpaceError, data_of, done-nothing, done-order, is_known, kept, last-is_known, learnt-order, learnt-owes, lists-learnt, lists-stepped, member, no_place-joins, order-pinned, owed-on, owed-stepped, place_known, refused, resolve-joins, resolved, same-stays, session_at, speaks, stepped, view_of}
+use Rattle.std.proofs.Common.{◌≡◌, ◌≤◌, ℕ, List, [], ◌∷◌, ◌++◌, None, Err, inl, inr, refl, sym, ap, subst, ◌∙◌, arith}
+use Rattle.mdl_shared.proofs.Lemmas.{At_place, IsMember, Joins, KeyName, KnownKey, Lists, NoPlace, OutOfMemory, Refused, Resolve, SeatState, Shows, SpaceError, data_of, done-nothing, done-order, is_known, kept, last-is_known, learnt-order, learnt-owes, learnt-shows, lists-learnt, lists-stepped, member, no_place-joins, order-pinned, owed-on, owed-stepped, place_known, refused, refused-shows, resolve-joins, resolved, same-stays, session_at, speaks, stepped, view_of}
 use Rattle.mdl_shared.proofs.FirstLemmas.{with_place}
 use Rattle.mdl_shared.proofs.KnownKeys.{known_none}
 use Rattle.mdl_visits.specs.KnownLists.{KnownList}
+use Rattle.mdl_visits.specs.Lookups.{IsLookupAnswer}
+use Rattle.mdl_visits.specs.declared.resolve_error.ResolveError.{ResolveError}
 use Rattle.mdl_shared.proofs.session.Session.look_up.Goals as goal
 use Rattle.mdl_shared.proofs.session.Session.look_up.Goals.{in-NoPlace, in-OutOfMemory}
 
@@ -114,3 +116,34 @@ returns-clause-joined g c =
     ap (λ (k : KnownList). k.pins) c.pin.ensures.pins ∙ ap (with_place place) (c.push_reserved.ensures.pins ∙ c.reserve.ensures.pins) in
     rw (← c.self.view_is) (subst (λ (ps : List ℕ). Joins (data_of (view_of m)) (Resolve m.seat.me.0.number key) (At_place place) (data_of (session_at c.resolve.new.seat m.sessions m.tickets.room ps)))
     (sym pins) (resolve-joins (member m) key none place told.2 told.0))
+
+pub returns-in-Err-clause-shown : goal.returns-in-Err-clause-shown
+returns-in-Err-clause-shown g c =
+    let m = c.self.inside.member in
+    let s = view_of m in
+    let key = c.args.key.now in
+    let none : place_known key s.me.0.known ≡ None = rw (← c.self.view_is) at c.requires.unknown in
+    let seat : SeatState = c.resolve.new.seat in
+    let answer = c.in-Err.ensures.answer in
+    let steps = c.in-Err.ensures.refused in
+    let is : ResolveError → Type 0 = λ why. IsLookupAnswer m.seat.table.slots key answer.0 answer.1 answer.2.1.within (Err why) in
+    let shows : SpaceError → List ℕ → Type 0 = λ why ps. Shows (Resolve s.me.0.number key) (Refused why) s (session_at seat m.sessions m.tickets.room ps) in
+    rw (← c.self.view_is) (elim c.match-why.branch [
+      | in-NoPlace w ↦ rw w.result-is (subst (shows NoPlace) (sym c.reserve.ensures.pins)
+          (refused-shows m.seat seat m.sessions key NoPlace answer.2.0 steps (none, inl (refl, (answer.0, answer.1, answer.2.1, subst is w.in-NoPlace answer.3)))))
+      | in-OutOfMemory w ↦ rw w.result-is (subst (shows OutOfMemory) (sym c.reserve.ensures.pins)
+          (refused-shows m.seat seat m.sessions key OutOfMemory answer.2.0 steps (none, inr (refl, inr (answer.0, answer.1, answer.2.1, subst is w.in-OutOfMemory answer.3)))))
+    ])
+
+pub returns-clause-shown : goal.returns-clause-shown
+returns-clause-shown g c =
+    let m = c.self.inside.member in
+    let key = c.args.key.now in
+    let place = c.in-Ok-resolve.place in
+    let seat : SeatState = c.resolve.new.seat in
+    let none : place_known key m.seat.me.0.known ≡ None = rw (← c.self.view_is) at c.requires.unknown in
+    let answer = c.in-Ok-resolve.ensures.answer in
+    let pins : c.pin.new.self.pins ≡ with_place place m.known.pins =
+    ap (λ (k : KnownList). k.pins) c.pin.ensures.pins ∙ ap (with_place place) (c.push_reserved.ensures.pins ∙ c.reserve.ensures.pins) in
+    rw (← c.self.view_is) (subst (λ (ps : List ℕ). Shows (Resolve m.seat.me.0.number key) (At_place place) (view_of m) (session_at seat m.sessions m.tickets.room ps))
+    (sym pins) (learnt-shows m.seat seat m.sessions place key answer.2.0 c.in-Ok-resolve.ensures.known none (answer.0, answer.1, answer.2.1, answer.3)))
