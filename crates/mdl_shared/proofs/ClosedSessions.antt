@@ -1,5 +1,5 @@
 -- A session that can be closed has nothing, and gives up its pins.
-use Rattle.std.proofs.Common.{◌≡◌, ℕ, ◌<◌, ◌==◌, ◌&&◌, true, false, List, [], ◌∷◌, length, map, filter_map, is_some, nat_lt, ltb-true, Option, Some, None, IfSome, refl, sym, ap, subst, ◌∙◌, arith}
+use Rattle.std.proofs.Common.{◌≡◌, ℕ, ◌<◌, ◌==◌, ◌&&◌, true, false, List, [], ◌∷◌, ◌++◌, length, map, filter_map, is_some, nat_lt, ltb-true, Option, Some, None, IfSome, refl, sym, ap, subst, ◌∙◌, arith}
 use Rattle.mdl_calls.specs.SessionLocks.{are_at_pins}
 use Rattle.mdl_steps.specs.Pins.{HasNothingAt}
 use Rattle.mdl_shared.proofs.Common.{All-cons, All-nil, Ask, AreWithin, Held, IsMember, KnownKey, Lists, Member, SeatState, SessionLocks, SessionTicket, SessionView, Wait, all_tickets, and_parts, are_counted, are_within, as_held, data_of, interleaved, is_pinned, length-interleaved, list_any, note_of, noted_at, own_at, session_at, view_of}

@@ -1,8 +1,7 @@
 -- The keys that a session has looked up: no key twice and no place, whichever it looks up more, since the directory has each key at one place.
-use Rattle.std.proofs.Common.{◌≡◌, ℕ, zero, suc, ◌-◌, ◌<◌, ◌==◌, Bool, true, false, not, List, [], ◌∷◌, ◌++◌, length, get_or, Some, None, refl, sym, ap, ◌∙◌, subst, inl, inr, arith, All, AllPairs, Ok, Option, filter, slice_get, ◌⊎◌, eq-eqb, eqb-true}
-use Rattle.mdl_steps.proofs.Looking.{there}
+use Rattle.std.proofs.Common.{◌≡◌, ℕ, zero, suc, ◌-◌, ◌<◌, ◌==◌, Bool, true, false, not, List, [], ◌∷◌, ◌++◌, get_or, Some, None, refl, sym, ap, ◌∙◌, inl, inr, arith, All, AllPairs, Option, filter, slice_get, ◌⊎◌, eq-eqb, eqb-true}
 use Rattle.mdl_system.proofs.Deciding.{key-Decides}
-use Rattle.mdl_shared.proofs.Common.{All-cons, All-head, All-nil, All-tail, All-weaker, AreAllTables, AreLearnt, Distinct, Each, IsLookupAnswer, KeyName, Keys, KnownKey, KnowsKeys, Less, View, and_from, and_parts, are_apart, are_two, by_bool, is_eq, is_key_known, is_known, key-ties, key_at, key_cmp, key_eq, key_known, list_all, list_all-append, list_any-append, nat_tests, none_after, place_known, stays-known, unknown}
+use Rattle.mdl_shared.proofs.Common.{All-cons, All-head, All-nil, All-tail, All-weaker, AreAllTables, AreLearnt, Distinct, Each, KeyName, Keys, KnownKey, KnowsKeys, Less, View, and_from, and_parts, are_apart, are_two, by_bool, is_eq, is_key_known, is_known, key-ties, key_at, key_cmp, key_eq, key_known, list_all, list_all-append, list_any-append, nat_tests, place_known, stays-known, unknown}
 
 -- ---- one key more
 

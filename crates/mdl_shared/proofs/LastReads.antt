@@ -1,7 +1,7 @@
 -- What a session read of the version that stands at a place is what it read last there, and all that it knows of the place fits it.
-use Rattle.std.proofs.Common.{◌≡◌, ℕ, zero, suc, ◌≤◌, true, not, ◌==◌, ◌&&◌, List, [], ◌∷◌, Contains, Option, Some, None, inl, inr, if◌then◌else◌, refl, sym, ap, subst, ◌∙◌, arith, MatchOption, eq-eqb, eqb-true}
+use Rattle.std.proofs.Common.{◌≡◌, ℕ, ◌≤◌, true, ◌==◌, ◌&&◌, List, [], ◌∷◌, Contains, Option, Some, None, inl, inr, if◌then◌else◌, refl, sym, ap, subst, ◌∙◌, arith, eq-eqb, eqb-true}
 use Rattle.mdl_system.proofs.MemberLemmas.{Contains-none}
-use Rattle.mdl_shared.proofs.FirstLemmas.{AllNoted, Contains-cons_cases, Contains-here, Contains-later, Each, Follows, HasMet, IsMember, ReadNoneNewer, ReadOneStanding, ReadWhatFits, Reading, SessionTicket, SessionView, VersionedDefinition, all_noted, and_from, and_parts, by_bool, data_of, each-uninterleaved, last-among, last_read, newest-above, note_at, noted-some, numbered, option_map, option_or, or_left, or_right, own_at, placed-some, reads_at, tickets_seen, was_read}
+use Rattle.mdl_shared.proofs.FirstLemmas.{AllNoted, Contains-cons_cases, Contains-here, Contains-later, Each, Follows, HasMet, IsMember, ReadNoneNewer, ReadOneStanding, ReadWhatFits, Reading, SessionTicket, SessionView, VersionedDefinition, all_noted, and_from, by_bool, data_of, each-uninterleaved, last-among, last_read, newest-above, note_at, noted-some, numbered, option_map, option_or, or_left, or_right, own_at, placed-some, reads_at, tickets_seen, was_read}
 
 -- ---- what was read at a place
 

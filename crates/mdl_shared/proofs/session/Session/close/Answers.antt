@@ -1,5 +1,6 @@
 -- A session that is closed has no ticket, slow or fast, owes nothing, and needs no pin. One that isn't has a ticket, or owes a place a reschedule.
-use Rattle.std.proofs.Common.{◌≡◌, ℕ, ◌==◌, List, [], length, list_any, refl, sym, ap, subst, ◌∙◌, arith, eqb-true}
+use Rattle.std.proofs.Common.{◌≡◌, ℕ, ◌==◌, List, [], length, refl, sym, ap, subst, ◌∙◌, arith, eqb-true}
+use Rattle.std.specs.List.{list_any}
 use Rattle.mdl_shared.proofs.Lemmas.{IsMember, KnownKey, Lists, Mine, interleaved, length-interleaved, lists_seen, member, none-owed, view_of}
 use Rattle.mdl_shared.proofs.ClosedSessions.{closed-view, has-nothing, known-within, nothing-at, nothing-left, unpinned-member}
 use Rattle.mdl_shared.proofs.session.Session.close.Goals as goal

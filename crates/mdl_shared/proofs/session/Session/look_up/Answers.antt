@@ -130,9 +130,9 @@ returns-in-Err-clause-shown g c =
     let shows : SpaceError → List ℕ → Type 0 = λ why ps. Shows (Resolve s.me.0.number key) (Refused why) s (session_at seat m.sessions m.tickets.room ps) in
     rw (← c.self.view_is) (elim c.match-why.branch [
       | in-NoPlace w ↦ rw w.result-is (subst (shows NoPlace) (sym c.reserve.ensures.pins)
-          (refused-shows m.seat seat m.sessions key NoPlace answer.2.0 steps (none, inl (refl, (answer.0, answer.1, answer.2.1, subst is w.in-NoPlace answer.3)))))
+          (refused-shows m.seat seat m.sessions key NoPlace answer.2.0 steps (none, inl (refl, (answer.0, answer.1, answer.2.1, subst is w.in-NoPlace.is answer.3)))))
       | in-OutOfMemory w ↦ rw w.result-is (subst (shows OutOfMemory) (sym c.reserve.ensures.pins)
-          (refused-shows m.seat seat m.sessions key OutOfMemory answer.2.0 steps (none, inr (refl, inr (answer.0, answer.1, answer.2.1, subst is w.in-OutOfMemory answer.3)))))
+          (refused-shows m.seat seat m.sessions key OutOfMemory answer.2.0 steps (none, inr (refl, inr (answer.0, answer.1, answer.2.1, subst is w.in-OutOfMemory.is answer.3)))))
     ])
 
 pub returns-clause-shown : goal.returns-clause-shown
