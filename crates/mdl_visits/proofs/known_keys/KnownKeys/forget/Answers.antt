@@ -25,9 +25,11 @@ index_mut-requires c =
 pub shift_indexes-requires : goal.shift_indexes-requires
 shift_indexes-requires c =
     let inside = c.self.inside in
-    record { behind = subst (AreBehind c.from-at.result c.shift_remove_index.new.self.entries) (sym c.deref_mut.ensures.value)
-        (subst (λ (es : List (KeyName × ℕ)). AreBehind c.from-at.result es inside.indexes.items) (sym c.shift_remove_index.ensures.entries)
-        (behind_removed inside.places.entries inside.indexes.items c.from-at.result c.self.invariant.indexed)) }
+    record {
+      behind = subst (AreBehind c.from-at.result c.shift_remove_index.new.self.entries) (sym c.deref_mut.ensures.value)
+          (subst (λ (es : List (KeyName × ℕ)). AreBehind c.from-at.result es inside.indexes.items) (sym c.shift_remove_index.ensures.entries)
+          (behind_removed inside.places.entries inside.indexes.items c.from-at.result c.self.invariant.indexed));
+    }
 
 pub invariant_of-self : goal.invariant_of-self
 invariant_of-self c =
