@@ -1,5 +1,5 @@
 -- What a session learns by calls: places of keys, and how its own wait is settled.
-use Rattle.std.specs.Prelude.{◌≡◌, ℕ, Bool, true, false, List, [], ◌∷◌, ◌++◌, map, All, AllPairs, Option, Some, None}
+use Rattle.std.specs.Prelude.{◌≡◌, ◌⊎◌, ℕ, ◌==◌, not, Bool, true, false, List, [], ◌∷◌, ◌++◌, filter, map, All, AllPairs, Option, Some, None}
 use Rattle.mdl_calls.specs.Prelude.{KeyName, KnownKey, Less, Settled, are_apart, is_known, key_cmp, key_known}
 use Rattle.mdl_calls.specs.Reads.{is_table_of}
 use Rattle.mdl_calls.specs.SessionData.{SessionData}
@@ -21,6 +21,14 @@ pub record LearnsTables (schema : List ℕ) (places : List ℕ) (before after : 
   pub of_schema : All (λ (t : KnownKey). is_table_of schema t.key ≡ true) tables
   pub learnt : All (λ (t : KnownKey). key_known t.place after ≡ Some t.key) tables
   pub in_order : AllPairs (λ (one other : KnownKey). key_cmp one.key other.key ≡ Less) tables
+
+-- the known keys, except that of a place
+abbrev pub forgetting : ℕ → List KnownKey → List KnownKey
+forgetting place known = filter (λ (k : KnownKey). not (k.place == place)) known
+
+-- the session knows the same keys, or perhaps not that of this place any more
+abbrev pub MayForget : ℕ → List KnownKey → List KnownKey → Type 0
+MayForget place before after = (after ≡ before) ⊎ (after ≡ forgetting place before)
 
 -- what the session knows of how its wait is settled. If the wait was ended it knows nothing. Otherwise it knows what it knew, and may have learnt it,
 -- unless it had no wait.

@@ -5,6 +5,7 @@
 //! has tests of the steps below sessions, and `contexts` of statements over them. The tests use only what `mdl_shared` and `mdl_steps` make public, so
 //! these have no tests themselves and are proved once.
 mod acts;
+mod anew;
 mod audits;
 mod cached_reads;
 mod chance;

@@ -45,12 +45,12 @@ pins-given_up a place sound pinned no_ticket no_wait = (
     own = refl;
     numbers = refl;
     explained = (pinned, no_ticket, no_wait);
-    learns = refl;
+    learns = inl refl;
     agreed = λ state how is. cc;
     told = λ how is. cc;
     settled = settled-same a b refl;
     reads = reads-nothing a b refl refl;
-    truly = tt;
+    truly = inl refl;
   },
 )
   where

@@ -1,9 +1,9 @@
 -- What is always so of a session is so after each call.
-use Rattle.std.proofs.Common.{◌≡◌, ℕ, Bool, true, false, is_some, Option, Some, None, IfSome, inr, refl, sym, ap, subst, ◌∙◌}
+use Rattle.std.proofs.Common.{◌≡◌, ◌≢◌, ℕ, Bool, true, false, is_some, Option, Some, None, IfSome, inl, inr, refl, sym, ap, subst, ◌∙◌}
 use Rattle.mdl_calls.proofs.PinLemmas.{HasPins, all-after, all-weaker, has_pins-after, rise-after}
-use Rattle.mdl_session_laws.proofs.FirstLemmas.{Answer, At_place, Call, IsRising, IsSound, Joins, KeepsSettled, Knows, Resolve, SessionData, SessionLocks, Settled, Wait, are_at_pins, are_below, are_pins_known, are_rising_places, effect_of, ends_wait, first_free, is_known, is_pinned, is_waiting, known-is, own_after}
+use Rattle.mdl_session_laws.proofs.FirstLemmas.{Answer, At_place, Call, Done, IsRising, IsSound, Joins, KeepsSettled, KeyName, Knows, Resolve, SessionData, SessionLocks, Settled, Unpin, Wait, are_at_pins, are_below, are_pins_known, are_rising_places, effect_of, ends_wait, first_free, is_known, is_pinned, is_waiting, key_known, known-is, noted_at, own_after}
 use Rattle.mdl_session_laws.proofs.KeyLaws.{session-resolves}
-use Rattle.mdl_session_laws.proofs.KnownAfter.{known-apart, knows-on, known-on}
+use Rattle.mdl_session_laws.proofs.KnownAfter.{forgets-else, is_unpin, known-apart, known-on, knows-on, unpinned-known}
 use Rattle.mdl_session_laws.proofs.OwnAfter.{counts-after, keeps-pins, pins-by, waits-on}
 use Rattle.mdl_session_laws.proofs.ReadAfter.{HasLearnt, learnt, noted-on, newest-on, fits-on}
 use Rattle.mdl_session_laws.specs.SpaceLaws.{beginning}
@@ -17,24 +17,47 @@ unsettled a sound idle = by a.settled sound.settled
     by (Some how) waits = let no = sym (waits refl) ∙ idle in cc
 
 module _ (a b : SessionData) (call : Call) (answer : Answer) (sound : IsSound a) (joins : Joins a call answer b) where
-  -- places that were known are
-  known-still : (place : ℕ) → is_known place a.known ≡ true → is_known place b.known ≡ true
-  known-still = known-on call answer a.known b.known joins.learns
-
   -- places of tickets and of the wait are pinned
   has_pins-still : HasPins (own_after call answer a.own)
   has_pins-still = has_pins-after (effect_of call answer) a.own (sound.placed, sound.awaited) (keeps-pins (Knows a a.number) call answer a.own joins.explained)
 
-  -- and pinned places are known, also the one that was resolved
-  pinned-known : are_pins_known b.known (own_after call answer a.own).pins ≡ true
-  pinned-known =
+  -- pinned places are known, also the one that was resolved, unless a pin was given up
+  others-known : ((who place : ℕ) → call ≡ Unpin who place → answer ≡ Done → ⊥) → are_pins_known b.known (own_after call answer a.own).pins ≡ true
+  others-known stays =
       all-after (λ place. is_known place b.known) (effect_of call answer) a.own
       (λ place pins.
       let resolved = pins-by call answer place pins in
       let resolves : Joins a (Resolve resolved.0 resolved.1) (At_place place) b =
       subst (λ x. Joins a x (At_place place) b) resolved.2 (subst (λ x. Joins a call x b) resolved.3 joins) in
       known-is b.known place resolved.1 (session-resolves a b resolved.0 place resolved.1 resolves))
-      (all-weaker (λ place. is_known place a.known) (λ place. is_known place b.known) known-still a.own.pins sound.pinned)
+      (all-weaker (λ place. is_known place a.known) (λ place. is_known place b.known)
+      (λ place. known-on call answer a.known b.known joins.learns place (λ who is done. stays who place is done)) a.own.pins sound.pinned)
+
+  -- and if one was
+  pinned-known : are_pins_known b.known (own_after call answer a.own).pins ≡ true
+  pinned-known = elim (is_unpin call answer) [
+    | inl u ↦
+        let gave : Joins a (Unpin u.0 u.1) Done b = subst (λ (c : Call). Joins a c Done b) u.2 (subst (λ (x : Answer). Joins a call x b) u.3 joins) in
+        subst (λ (c : Call). are_pins_known b.known (own_after c answer a.own).pins ≡ true) (sym u.2)
+        (subst (λ (x : Answer). are_pins_known b.known (own_after (Unpin u.0 u.1) x a.own).pins ≡ true) (sym u.3)
+        (unpinned-known u.1 a.known b.known a.own.pins gave.learns sound.pinned))
+    | inr stays ↦ others-known stays
+  ]
+
+  -- a version that is noted is one of a place whose key is known still
+  knows-at : (place version : ℕ) → noted_at place b.notes ≡ Some version → (key : KeyName) → key_known place a.known ≡ Some key → key_known place b.known ≡ Some key
+  knows-at place version noted key known = elim (is_unpin call answer) [
+    | inl u ↦
+        let gave : Joins a (Unpin u.0 u.1) Done b = subst (λ (c : Call). Joins a c Done b) u.2 (subst (λ (x : Answer). Joins a call x b) u.3 joins) in
+        elim gave.truly [
+          | inl same ↦ ap (key_known place) same ∙ known
+          | inr less ↦
+              let was = gave.reads.noted place version noted in
+              let apart : place ≢ u.1 = λ e. (let gone = ap (λ (p : ℕ). noted_at p a.notes) e ∙ less.1 in absurd (cc)) in
+              ap (key_known place) less.0 ∙ forgets-else u.1 place a.known apart ∙ known
+        ]
+    | inr stays ↦ knows-on call answer a.known b.known joins.learns place key (λ who is done. stays who place is done) known
+  ]
 
   -- only a wait is settled
   settled-still : is_some b.settled ≡ true → is_waiting (own_after call answer a.own) ≡ true
@@ -70,7 +93,7 @@ module _ (a b : SessionData) (call : Call) (answer : Answer) (sound : IsSound a)
         settled = λ some. of-own (λ own. is_waiting own ≡ true) (settled-still some);
         noted = noted-on a b sound lets;
         newest = newest-on a b sound lets;
-        fits = fits-on a b sound (knows-on call answer a.known b.known joins.learns) lets;
+        fits = λ place version standing noted is. fits-on a b sound lets place version standing (knows-at place version noted) noted is;
       }
 
 -- likewise of a session that has learnt what stands at a place, and is otherwise the same
@@ -89,7 +112,7 @@ learns-sound a b sound learns same =
       settled = sound.settled;
       noted = noted-on a c sound lets;
       newest = newest-on a c sound lets;
-      fits = fits-on a c sound (λ place key is. is) lets;
+      fits = λ place version standing noted is. fits-on a c sound lets place version standing (λ key known. known) noted is;
     })
 
 -- and it is so of a session that has nothing yet

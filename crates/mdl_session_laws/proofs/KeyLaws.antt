@@ -4,7 +4,7 @@ use Rattle.mdl_calls.proofs.PinLemmas.{all-among, at_pins-told}
 use Rattle.mdl_calls.proofs.TableLemmas.{table-of}
 use Rattle.mdl_key.specs.Keys.{global_key, key_cmp}
 use Rattle.std.proofs.lemmas.List.{get_or-map, length-map}
-use Rattle.mdl_session_laws.proofs.FirstLemmas.{Answer, AreTablesOf, At_place, Call, ComesBefore, Done, HasTableOf, Held, Joins, KeyName, Key_is, Key_of, KnownKey, Knows, LearnsPlace, LearnsTables, Resolve, SessionData, SpeaksFor, Tables, Tables_of, Unpin, Wait, are_rising_places, is-known, is_known, is_pinned, key-of_place, key_known, last-known, own_of, place-of_key, place_known}
+use Rattle.mdl_session_laws.proofs.FirstLemmas.{Answer, AreTablesOf, At_place, Call, ComesBefore, Done, HasTableOf, Held, Joins, KeyName, Key_is, Key_of, KnownKey, Knows, LearnsPlace, LearnsTables, Resolve, SessionData, SpeaksFor, Tables, Tables_of, Unpin, Wait, are_rising_places, is-known, is_known, is_pinned, key-of_place, key_known, last-known, own_of, caller, place-of_key, place_known}
 use Rattle.mdl_session_laws.proofs.KnownAfter.{knows-on}
 
 -- ---- keys and places
@@ -21,7 +21,10 @@ session-resolves a b who place key joins = by (place_known key a.known) refl joi
 -- a place keeps its key, for all who know it
 pub session-remembers : (a b : SessionData) (call : Call) (answer : Answer) (w place : ℕ) (key : KeyName) → SpeaksFor a w
     → (call ≡ Unpin w place → answer ≡ Done → ⊥) → Joins a call answer b → Knows a w place key → Knows b w place key
-session-remembers a b call answer w place key speaks_for stays joins = knows-on call answer a.known b.known joins.learns place key
+session-remembers a b call answer w place key speaks_for stays joins =
+    knows-on call answer a.known b.known joins.learns place key (λ who is done.
+        let mine : SpeaksFor a who = subst (λ (x : Call). IfSome (caller x) (SpeaksFor a)) is joins.mine in
+        stays (is ∙ ap (λ (n : ℕ). Unpin n place) (mine.0 ∙ sym speaks_for.0)) done)
 
 -- a place has one key
 pub session-one_key : (a : SessionData) (w place : ℕ) (key other : KeyName) → SpeaksFor a w → Knows a w place key → Knows a w place other → key ≡ other

@@ -137,10 +137,10 @@ newest-on a b sound (inr h) place standing is = elim (eqb_tells place h.place) [
 ]
 
 -- and where its version is noted, it may stand there, as what is known stays known
-pub fits-on : (a b : SessionData) → IsSound a → ((place : ℕ) (key : KeyName) → key_known place a.known ≡ Some key → key_known place b.known ≡ Some key)
-    → ReadsNothing a b ⊎ HasLearnt a b → (place version : ℕ) (standing : VersionedDefinition) → noted_at place b.notes ≡ Some version → last_read place b.reads ≡ Some standing
-    → FitsKey b place standing
-fits-on a b sound knows lets place version standing noted is = on (before lets)
+pub fits-on : (a b : SessionData) → IsSound a → ReadsNothing a b ⊎ HasLearnt a b → (place version : ℕ) (standing : VersionedDefinition)
+    → ((key : KeyName) → key_known place a.known ≡ Some key → key_known place b.known ≡ Some key)
+    → noted_at place b.notes ≡ Some version → last_read place b.reads ≡ Some standing → FitsKey b place standing
+fits-on a b sound lets place version standing knows noted is = on (before lets)
   where
     on : FitsKey a place standing → FitsKey b place standing
     on = elim (key_known place a.known) as (λ o. ((key : KeyName) → o ≡ Some key → key_known place b.known ≡ Some key)
@@ -148,7 +148,7 @@ fits-on a b sound knows lets place version standing noted is = on (before lets)
           | None ↦ λ _ none. absurd none
           | Some key ↦ λ same fits.
               subst (λ (o : Option KeyName). MatchOption o ⊥ (λ (k : KeyName). MayStand k.namespace standing)) (sym (same key refl)) fits
-        ] (knows place)
+        ] knows
 
     before : ReadsNothing a b ⊎ HasLearnt a b → FitsKey a place standing
     before (inl nothing) = sound.fits place version standing (nothing.noted place version noted) (ap (last_read place) (sym nothing.reads) ∙ is)

@@ -1,6 +1,6 @@
 -- What follows from the relation of calls to sessions: a session stays sound, and the laws of lock spaces on which code above relies most hold.
 use Rattle.std.specs.Prelude.{◌≡◌, ℕ, ◌≤◌, true, [], Some, None}
-use Rattle.mdl_session_laws.specs.Prelude.{Answer, At_place, Call, Change, Change_definition, Changed, End_wait, HasRead, HasSeen, Held, HoldsAt, IsChangeOf, IsRising, IsSettledAs, IsSound, IsToldOf, KeyName, Knows, MayStand, Resolve, SessionData, Settled, SpeaksFor, VersionedDefinition, X, caller, own_of, redefined_place, same_mode, standing_after, ticket_held}
+use Rattle.mdl_session_laws.specs.Prelude.{Answer, At_place, Call, Change, Change_definition, Changed, Done, End_wait, HasRead, HasSeen, Held, HoldsAt, IsChangeOf, IsRising, IsSettledAs, IsSound, IsToldOf, KeyName, Knows, MayStand, Resolve, SessionData, Settled, SpeaksFor, Unpin, VersionedDefinition, X, caller, own_of, redefined_place, same_mode, standing_after, ticket_held}
 use Rattle.mdl_session_laws.specs.SessionJoins.{Joins}
 
 -- a session that has nothing yet
@@ -49,10 +49,11 @@ KeysHaveOnePlace =
 abbrev pub ResolvedKeysAreKnown : Type 0
 ResolvedKeysAreKnown = (a b : SessionData) (who place : ℕ) (key : KeyName) → Joins a (Resolve who key) (At_place place) b → Knows b who place key
 
--- a session that knows the place of a key still knows it after each call
+-- a session that knows the place of a key still knows it after each call, but perhaps not after it gave up its pin of the place
 abbrev pub KnownKeysStay : Type 0
 KnownKeysStay =
-    (a b : SessionData) (call : Call) (answer : Answer) (who place : ℕ) (key : KeyName) → Joins a call answer b → Knows a who place key → Knows b who place key
+    (a b : SessionData) (call : Call) (answer : Answer) (who place : ℕ) (key : KeyName) → ((w : ℕ) → call ≡ Unpin w place → answer ≡ Done → ⊥) →
+    Joins a call answer b → Knows a who place key → Knows b who place key
 
 -- ---- waits
 

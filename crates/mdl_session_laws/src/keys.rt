@@ -11,7 +11,7 @@ pub fn resolved_keys_are_known()
     ensures { ResolvedKeysAreKnown }
 {}
 
-/// A session that knows the place of a key still knows it after each call.
+/// A session that knows the place of a key still knows it after each call, but perhaps not after it gave up its pin of the place.
 pub fn known_keys_stay()
     ensures { KnownKeysStay }
 {}

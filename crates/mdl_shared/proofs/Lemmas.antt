@@ -13,7 +13,7 @@ pub use Rattle.mdl_shared.proofs.HeldTickets.{HoldsTicket, holds-ticket}
 pub use Rattle.mdl_shared.proofs.KeptCalls.{after, between, full-joins, full-shows, hit-shows, kept-still, looked-same, met-read, miss-full_shows, miss-latch, miss-shows, miss-why, missed-met, seat-finds, seat-joins, seat-met, seat-reads, seat-still, unfound-met}
 pub use Rattle.mdl_shared.proofs.KeyCalls.{all-apart, key-is_known, known-joins, last-is_known, learnt-all, learnt-order, learnt-owes, learnt-shows, lists-learnt, lists-stepped, memory-joins, no_place-joins, order-pinned, order-same, refused-shows, resolve-joins, resolved, stepped, told-tables}
 pub use Rattle.mdl_shared.proofs.KillCalls.{kill-closed, kill-either, kill-ended, nobody-killed, nobody-waits, number-met, target-there}
-pub use Rattle.mdl_shared.proofs.PinCalls.{own-fast_pinned, own-pinned, unpin-joins, unpin-order, unpin-shows, unpinned-joins, unpinned-shows, used-joins, used-shows, used_at, without_pin}
+pub use Rattle.mdl_shared.proofs.PinCalls.{gone-joins, gone-order, gone-shows, gone-view, gone_from, has-nothing-there, kept-view, made-nothing, own-fast_pinned, own-pinned, unpin-joins, unpin-order, unpin-shows, unpinned-joins, unpinned-shows, used-joins, used-shows, used_at, without_pin}
 pub use Rattle.mdl_shared.proofs.PollCalls.{poll-pending, poll-refused, poll-settled, polls, timeout-already, timeout-now, timeout-refused, timeouts}
 pub use Rattle.mdl_shared.proofs.QuietDeeds.{lists-made, quiet-made, quiet-none, quiet-steps, quiet-then, quiet-visit, same-lists, steps-visited}
 pub use Rattle.mdl_shared.proofs.ReadCalls.{change-joins, lists-noted, noted-by, noted-order, noted-owes, read-joins, read-shows, unchanged-joins, unchanged-shows, unfit-joins, unread-joins, unread-shows}

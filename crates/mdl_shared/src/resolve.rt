@@ -15,7 +15,8 @@ use mdl_visits::{ResolveError, resolve};
 use std::sync::Wait;
 
 impl<R: Wait> Session<R> {
-    /// Returns the place of a key, which never changes, and pins it until [`Session::unpin`]. A new key gets the next free place. The session
+    /// Returns the place of a key, which stays its place while the session pins it, until [`Session::unpin`]. A new key gets the next free place, or, in a
+    /// full space, one that nobody pins and whose version is 0. The session
     /// looks in the directory once in a call at most, and only for a key that it doesn't know.
     pub fn resolve(&mut self, key: &Key) -> Result<Place, SpaceError>
         ensures joined { Transition (call.resolve self.old.me.0.number key.now) (placed result) (data_of self.old) (data_of self.new) }

@@ -1,4 +1,4 @@
-//! The end of a session's pin of a place. It takes no step on the table, since only the session's own list has the pins.
+//! The end of a session's pin of a place. Where nobody would miss it, the pin at the table ends, too, so that the place may be given another key.
 ghost use Rattle.std.specs.Prelude.{◌≡◌};
 ghost use Rattle.mdl_calls.specs.CallSpec.{Transition};
 ghost use Rattle.mdl_calls.specs.calls.Unpin as call;
@@ -12,10 +12,15 @@ ghost use Rattle.mdl_shared.specs.calls.Unpin as steps;
 use crate::Session;
 use crate::member::Member;
 use mdl_calls::{Place, SpaceError};
+use mdl_key::Namespace;
+use mdl_visits::{KnownKeys, let_go};
 
 impl<R> Session<R> {
-    /// Gives up the session's pin of a place. However often it resolved the key, one call ends the pin. The session still knows the key, and
-    /// [`Session::resolve`] pins the place again. It takes no memory.
+    /// Gives up the session's pin of a place. However often it resolved the key, one call ends the pin, and [`Session::resolve`] pins the key's
+    /// place again. It takes no memory and no latch.
+    ///
+    /// If the version of the place is 0, the session forgets the key, and the place may be given another one when the space is full. Otherwise, and
+    /// at the places of the global read lock and of commits, the session stays ready to pin the place again without a latch.
     ///
     /// Fails with [`SpaceError::NoPlace`] if the session doesn't pin the place, and with [`SpaceError::InUse`] if it has a ticket, fast or
     /// slow, or a wait there, or owes the place a [`Session::reschedule`].
@@ -30,8 +35,23 @@ impl<R> Session<R> {
         if self.member.is_in_use(place) {
             return Err(SpaceError::InUse);
         }
+        if stays_known(&self.member.known, place) {
+            self.member.known.unpin(place);
+            return Ok(());
+        }
+        if let_go(&mut self.member.seat, &mut self.member.known, place) {
+            return Ok(());
+        }
         self.member.known.unpin(place);
         Ok(())
+    }
+}
+
+// Whether a place has a key that every statement names: that of the global read lock, or that of commits.
+fn stays_known(known: &KnownKeys, place: usize) -> bool {
+    match known.key_at(place) {
+        Some(key) => matches!(key.namespace(), Namespace::Global | Namespace::Commit),
+        None => true,
     }
 }
 

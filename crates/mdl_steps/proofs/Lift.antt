@@ -1,6 +1,6 @@
 -- A step at one place leaves the cells of the others as they are, so the rule holds after it if it holds at that place.
 use Rattle.std.proofs.Common.{◌≡◌, ◌≢◌, ℕ, ◌+◌, ◌*◌, ◌<◌, ◌≤◌, false, List, map, set, length, get_or, sym, ap, ◌∙◌, subst, inl, inr, arith, refl, length-set, get_or-set_other, get_or-set_same}
-use Rattle.mdl_steps.proofs.Common.{Cell, Desk, DirectoryOk, Distinct, HasNothingAt, Holder, KeyName, KnowsKeys, Maybe, Numbered, Part, PinsOk, PlaceOk, Rule, Slot, State, View, Waiter, WaitsAgree, at_map, at_set, cell, desk_of, enrol_word, get_elem?, holder_at, is_pinned, is_some, key_at, latch_word, lock_word, map-set, part_at, pin_count, pins_word, set_again, some, version_word, waiter_of, waits}
+use Rattle.mdl_steps.proofs.Common.{Cell, Desk, DirectoryOk, Distinct, HasNothingAt, Holder, KeyName, KnowsKeys, Maybe, Numbered, Part, PinsOk, PlaceOk, Rule, Slot, State, View, Waiter, WaitsAgree, at_map, at_set, cell, desk_of, enrol_word, get_elem?, holder_at, is_pinned, key_at, latch_word, lock_word, map-set, part_at, pin_count, pins_word, set_again, some, version_word, waiter_of, waits}
 use Rattle.mdl_steps.proofs.PinLemmas.{KeepsPins, nothing_still, pins_kept}
 use Rattle.mdl_steps.proofs.Views.{map_kept, at_unmap, at_inside}
 

@@ -1,6 +1,6 @@
 -- A place that nobody pins gets another key: its latch is given back with the empty book of that key.
-use Rattle.std.proofs.Common.{◌≡◌, ◌≢◌, ℕ, ◌+◌, ◌-◌, ◌<◌, ◌≤◌, true, false, List, [], ◌∷◌, map, set, length, Some, None, refl, sym, ap, ◌∙◌, subst, inl, inr, arith, length-set, get_or-set_other, get_or-set_same}
-use Rattle.mdl_steps.proofs.FirstLemmas.{Allows, BookView, Desk, Homes, IsUnpinned, IsUnused, KeyName, Keyed, Keys, LatchRecord, Makes, MayRename, MayStand, Mine, ReachedFor, Rule, Table, VersionedDefinition, View, after, alone, at_inside, at_map, at_set, cell, desk_of, empty_book, exchanging, get_elem?, gives, goes_on, held_at-dropped, held_at-undropped, holder_at, key_at, latch_word, lifted, lock_word, none, not_there, nothing_yet, parts_again, put_back, put_cell, puts_other_key, renamed, seat_there, set_else, set_here, some, step, under, version_word}
+use Rattle.std.proofs.Common.{◌≡◌, ℕ, ◌-◌, ◌<◌, false, List, map, set, length, Some, None, refl, sym, ap, ◌∙◌, subst, inl, inr, arith, length-set, get_or-set_other, get_or-set_same}
+use Rattle.mdl_steps.proofs.FirstLemmas.{Allows, Desk, Homes, IsUnpinned, IsUnused, KeyName, Keyed, Keys, LatchRecord, Makes, MayRename, MayStand, Mine, ReachedFor, Rule, Table, VersionedDefinition, View, after, alone, at_inside, at_map, at_set, cell, desk_of, empty_book, exchanging, get_elem?, gives, goes_on, held_at-dropped, held_at-undropped, holder_at, key_at, latch_word, lifted, lock_word, none, not_there, nothing_yet, parts_again, put_back, put_cell, puts_other_key, renamed, seat_there, set_else, set_here, some, step, under, version_word}
 use Rattle.mdl_steps.proofs.Desks.{alone_desk}
 use Rattle.mdl_steps.proofs.Exchanging.{distinct_set, known_set, set_apart, set_at}
 use Rattle.mdl_steps.proofs.NewKeys.{exchanged_book, still_some}

@@ -1,8 +1,8 @@
 -- Which sessions pin a place, and what they have there, after one view is another.
-use Rattle.std.proofs.Common.{◌≡◌, ◌≢◌, ℕ, zero, suc, ◌+◌, ◌<◌, ◌==◌, ◌||◌, Bool, true, false, cond, List, [], ◌∷◌, ◌++◌, set, length, get_or, Some, None, refl, sym, ap, ◌∙◌, subst, inl, inr, arith, Option, eq-eqb, count_by}
+use Rattle.std.proofs.Common.{◌≡◌, ◌≢◌, ℕ, zero, suc, ◌+◌, ◌<◌, ◌==◌, Bool, true, false, cond, List, [], ◌∷◌, ◌++◌, set, get_or, Some, None, refl, sym, ap, ◌∙◌, subst, inl, inr, arith, eq-eqb, count_by}
 use Rattle.mdl_key.specs.KeyLookups.{is_known}
 use Rattle.std.proofs.lemmas.List.Sums.{sum_by-set}
-use Rattle.mdl_steps.proofs.Common.{Ask, Each, HasNothingAt, HasNothingUnpinned, IdleHolds, IsUnpinned, KnownKey, KnowsPlace, Part, PinsOk, View, at_set, at_snoc, get_elem?, is_pinned, is_some, part_at, some, some-injective, some-ne-none}
+use Rattle.mdl_steps.proofs.Common.{Each, HasNothingAt, HasNothingUnpinned, IdleHolds, IsUnpinned, KnownKey, KnowsPlace, Part, PinsOk, View, at_set, at_snoc, get_elem?, is_pinned, is_some, part_at, some, some-injective, some-ne-none}
 use Rattle.mdl_steps.proofs.FastLists.{count-append}
 use Rattle.mdl_steps.proofs.Views.{at_inside, by_bool}
 

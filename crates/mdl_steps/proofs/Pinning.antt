@@ -1,7 +1,7 @@
 -- Steps on the word of a place's pins: the cells of all places stay as they are.
-use Rattle.std.proofs.Common.{◌≡◌, ◌≢◌, ℕ, zero, suc, ◌+◌, ◌-◌, ◌*◌, ◌%◌, ◌^◌, ◌<◌, ◌≤◌, ◌==◌, ◌&&◌, ◌||◌, not, Bool, true, false, cond, List, [], ◌∷◌, ◌++◌, map, set, length, get_or, Some, None, refl, sym, ap, ◌∙◌, subst, inl, inr, arith, Option, count_by, length-set, get_or-set_other, get_or-set_same, eq-eqb, eqb-true, lt-ltb}
+use Rattle.std.proofs.Common.{◌≡◌, ◌≢◌, ℕ, ◌+◌, ◌-◌, ◌*◌, ◌%◌, ◌^◌, ◌<◌, ◌≤◌, ◌==◌, ◌&&◌, ◌||◌, not, Bool, true, false, cond, List, [], ◌∷◌, ◌++◌, map, set, length, get_or, Some, None, refl, sym, ap, ◌∙◌, subst, inl, inr, arith, Option, count_by, length-set, get_or-set_other, get_or-set_same, eq-eqb, eqb-true, lt-ltb}
 use Rattle.mdl_key.specs.KeyLookups.{is_known}
-use Rattle.mdl_steps.proofs.FirstLemmas.{Allows, Desk, Each, HasNothingAt, HasNothingUnpinned, IdleHolds, IsUnpinned, KeyName, Keys, KnownKey, KnowsKeys, Makes, MayPin, MayUnpin, Mine, Numbered, PinsOk, PlaceOk, ReachedFor, Rule, Table, View, Waiter, WaitsAgree, after, and_parts, at_map, at_set, but_known, by_bool, cases_eq, cell, count_by-le-length, desk_of, enrol_word, filter, found_idle, get_elem?, goes_on, holder_at, is_pinned, is_some, keeps, key_at, latch_word, learnt, length_mapped, lock_word, map_kept, met_pins, none, none_passes, other, part_at, pin_count, pinned_at, pins_place, pins_word, reads_pins, some, step, unpinned_at, unpins_place, version_word, waiter_of, waits}
+use Rattle.mdl_steps.proofs.FirstLemmas.{Allows, Each, HasNothingAt, HasNothingUnpinned, IdleHolds, IsUnpinned, KeyName, Keys, KnownKey, KnowsKeys, Makes, MayPin, MayUnpin, Mine, Numbered, PinsOk, PlaceOk, ReachedFor, Rule, Table, View, Waiter, WaitsAgree, after, and_parts, at_map, at_set, but_known, by_bool, cases_eq, cell, count_by-le-length, desk_of, enrol_word, filter, found_idle, get_elem?, goes_on, holder_at, is_pinned, is_some, keeps, key_at, latch_word, learnt, length_mapped, lock_word, map_kept, met_pins, none, none_passes, other, part_at, pin_count, pinned_at, pins_place, pins_word, reads_pins, some, step, unpinned_at, unpins_place, version_word, waiter_of, waits}
 use Rattle.mdl_steps.proofs.Desks.{alone_desk, each-append, learnt_known}
 use Rattle.mdl_steps.proofs.PinLemmas.{count_set, pins_after}
 

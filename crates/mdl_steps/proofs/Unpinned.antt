@@ -1,5 +1,5 @@
 -- Where no session pins a place, none has anything there: the book has no ticket, and the word counts none.
-use Rattle.std.proofs.Common.{◌≡◌, ◌≢◌, ℕ, zero, suc, ◌<◌, List, [], ◌∷◌, ◌++◌, map, length, Some, None, refl, sym, ap, ◌∙◌, subst, Option, eq-eqb}
+use Rattle.std.proofs.Common.{◌≡◌, ◌≢◌, ℕ, zero, suc, ◌<◌, List, [], ◌∷◌, ◌++◌, map, length, Some, None, refl, ap, ◌∙◌, subst, Option, eq-eqb}
 use Rattle.mdl_steps.proofs.FirstLemmas.{Ask, Asking, BookOk, BookView, HasNothingAt, IsUnpinned, KeyName, Owned, Part, Rule, Table, Ticket, View, all_fast, asking_at, at_unmap, cell, due, get_elem?, key_at, option_to_list, other, own_at, part_at, pending, some, ticket_by, ticket_of, waits}
 
 -- a session that waits elsewhere waits for nothing here

@@ -1,6 +1,6 @@
 -- A session opens a wait, and ends it: steps on its own wait's word.
 use Rattle.std.proofs.Common.{◌≡◌, ◌≢◌, ℕ, ◌+◌, ◌*◌, ◌/◌, ◌%◌, ◌<◌, ◌≤◌, ◌==◌, cond, false, List, [], ◌∷◌, ◌++◌, map, set, length, Some, None, refl, sym, ap, ◌∙◌, subst, arith, Option}
-use Rattle.mdl_steps.proofs.FirstLemmas.{Allows, AreUnmixed, Ask, Each, Gain, KeyName, KnownKey, LatchRecord, Makes, MayCancel, MayOpen, Mine, Mode, NoteAgrees, Part, PlaceOk, ReachedFor, Rule, SessionTicket, Shown, Shows, Table, Ticket, Under, View, WaitOk, after, all_fast, alone, alone_parts, asked_ticket, asking, asking_at, at_map, by_bool, cell, each-from_at, each-note, each_at, ended_granted, ended_lost, ended_wait, ends_granted, ends_lost, exact_again, flagged_cancelled, get_elem?, goes_on, held_at, held_at-changed, held_at-unchanged, holder_at, holder_cell, holders_again, is_pinned, keeps, key_at, knows_no_less, lock_kind, none, note_at, opened, opened_wait, opens_wait, other, own_at, owned_else, paid_before, part_at, seat_there, some, step, taken_over, under, wait_in, wait_word, waiter_of, waits, with_cancelled, with_waiting}
+use Rattle.mdl_steps.proofs.FirstLemmas.{Allows, AreUnmixed, Ask, Each, Gain, KeyName, KnownKey, LatchRecord, Makes, MayCancel, MayOpen, Mine, Mode, NoteAgrees, Part, PlaceOk, ReachedFor, Rule, SessionTicket, Shown, Shows, Table, Ticket, Under, View, WaitOk, after, all_fast, alone, alone_parts, asked_ticket, asking, asking_at, at_map, by_bool, cell, each-from_at, each-note, each_at, ended_granted, ended_lost, ended_wait, ends_granted, ends_lost, exact_again, flagged_cancelled, get_elem?, goes_on, held_at, held_at-changed, held_at-unchanged, holder_at, holder_cell, holders_again, is_pinned, keeps, key_at, knows_no_less, lock_kind, none, note_at, opened, opened_wait, opens_wait, own_at, owned_else, paid_before, part_at, seat_there, some, step, taken_over, under, wait_in, wait_word, waiter_of, waits, with_cancelled, with_waiting}
 use Rattle.mdl_steps.proofs.Desks.{each-append}
 use Rattle.mdl_steps.proofs.Unpinned.{asks_away}
 use Rattle.mdl_steps.proofs.WaitBooks.{opened_ok, taken_ok, cancelled_ok, fast_kept}

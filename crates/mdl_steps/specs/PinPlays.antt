@@ -1,6 +1,6 @@
 -- The steps on the word of a place's pins: what each changes in the view of its session, and when it may be made. A session pins a place while it holds
 -- the directory's latch, so a place that it found unpinned under that latch stays so.
-use Rattle.std.specs.Prelude.{◌≡◌, ℕ, ◌==◌, ◌&&◌, Bool, true, false, if◌then◌else◌, List, [], ◌++◌, Option, Some, None}
+use Rattle.std.specs.Prelude.{◌≡◌, ℕ, ◌==◌, ◌&&◌, true, false, if◌then◌else◌, [], ◌++◌, Option, Some, None}
 use Rattle.mdl_steps.specs.FirstWords.{HasNothingAt, KeyName, Keys, Slot, Step, but_known, is_pinned, is_some, key_at, pins_word}
 use Rattle.mdl_steps.specs.Plays.{Mine, logged}
 use Rattle.mdl_steps.specs.Seats.{learnt}

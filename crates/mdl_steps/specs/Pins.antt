@@ -1,5 +1,5 @@
 -- Pins: a session pins the places whose keys it knows. As long as a place is pinned, no other key gets it.
-use Rattle.std.specs.Prelude.{◌≡◌, ◌≢◌, ℕ, ◌<◌, ◌==◌, Bool, true, false, not, List, [], filter, Option, Some, slice_index}
+use Rattle.std.specs.Prelude.{◌≡◌, ◌≢◌, ℕ, ◌<◌, ◌==◌, Bool, true, false, not, List, [], filter, Some, slice_index}
 use Rattle.mdl_key.specs.KeyLookups.{is_known}
 use Rattle.mdl_steps.specs.Prelude.{Ask, KnownKey, Slot, State, View, count_by, get_elem?, is_some, list_any, some}
 use Rattle.mdl_steps.specs.Cells.{own_at}

@@ -66,8 +66,8 @@ pub use directory::LatchedDirectory;
 pub use laws::{
     free_locks_are_as_their_words_tell, held_locks_are_as_their_records_tell, nobody_else_waits,
     noted_versions_stand, pinned_places_have_their_keys, pins_are_counted,
-    reached_tables_keep_the_rule, reads_are_of_what_stands,
-    taken_latches_are_held, waiters_are_as_their_words_tell,
+    reached_tables_keep_the_rule, reads_are_of_what_stands, taken_latches_are_held,
+    waiters_are_as_their_words_tell,
 };
 pub use maker::{Maker, OwnedTable};
 pub use plays::Order;

@@ -2,7 +2,7 @@
 ghost use Rattle.std.specs.Prelude.{◌≡◌};
 ghost use Rattle.mdl_shared.specs.Passes.{pass_table};
 
-use crate::shared::acts::{Act, Lock, Memory, Reply, make};
+use crate::shared::acts::{Act, Edit, Lock, Memory, Reply, make};
 use crate::shared::rows::{Case, Row, are_right};
 use crate::shared::sessions::{close, closed};
 use mdl_calls::{Ended, SpaceError};
@@ -20,7 +20,7 @@ const WAITS_ALREADY: Reply = Reply::Refused(SpaceError::AlreadyWaiting);
 
 const BAD_MODE: Reply = Reply::Refused(SpaceError::BadMode);
 
-// A pin that was given up is had again, at the same place. Another session's pin isn't touched, and the key stays known.
+// A pin that was given up is had again, at the same place, since another session pins it, too. The key isn't known meanwhile.
 const GIVEN_UP: &[Row] = &[
     (1, Act::Unpin(1), NO_PLACE),
     (1, Act::Resolve(Lock::Sales), Reply::Place(1)),
@@ -30,7 +30,7 @@ const GIVEN_UP: &[Row] = &[
     (1, Act::Try(1, Mode::SR), NO_PLACE),
     (1, Act::Begin(1, Mode::SR), NO_PLACE),
     (1, Act::TryFast(1, Mode::SR), NO_PLACE),
-    (1, Act::Names(1, Lock::Sales), Reply::Is(true)),
+    (1, Act::Names(1, Lock::Sales), NO_PLACE),
     (2, Act::Try(1, Mode::X), Reply::Granted(1)),
     (1, Act::Resolve(Lock::Sales), Reply::Place(1)),
     (1, Act::Begin(1, Mode::SR), Reply::Waiting(1)),
@@ -156,6 +156,46 @@ const IN_ORDER: &[Row] = &[
     (2, Act::ReleaseAll, Reply::Count(2)),
 ];
 
+// Once each place has a key, a key gets the first place that no session pins, and has it for every session until none pins it.
+const GIVEN_ANEW: &[Row] = &[
+    (1, Act::Resolve(Lock::Sales), Reply::Place(1)),
+    (1, Act::Resolve(Lock::Orders), Reply::Place(2)),
+    (2, Act::Resolve(Lock::Goods), NO_PLACE),
+    (2, Act::Resolve(Lock::Orders), Reply::Place(2)),
+    (1, Act::Unpin(2), Reply::Done),
+    (2, Act::Resolve(Lock::Goods), NO_PLACE),
+    (1, Act::Unpin(1), Reply::Done),
+    (2, Act::Resolve(Lock::Goods), Reply::Place(1)),
+    (2, Act::Names(1, Lock::Goods), Reply::Is(true)),
+    (3, Act::Resolve(Lock::Goods), Reply::Place(1)),
+    (1, Act::Resolve(Lock::Sales), NO_PLACE),
+    (2, Act::Try(1, Mode::X), Reply::Granted(1)),
+    (3, Act::Begin(1, Mode::SR), Reply::Waiting(1)),
+    (2, Act::Release(1), Reply::Done),
+    (2, Act::Unpin(1), Reply::Done),
+    (1, Act::Resolve(Lock::Sales), NO_PLACE),
+    (3, Act::End, Reply::Ended(Ended::Granted(1))),
+    (3, Act::Release(1), Reply::Done),
+    (3, Act::Unpin(1), Reply::Done),
+    (1, Act::Resolve(Lock::Sales), Reply::Place(1)),
+    (2, Act::Unpin(2), Reply::Done),
+    (3, Act::Resolve(Lock::Games), Reply::Place(2)),
+];
+
+// A place that ever had a definition keeps its key, even if no session pins it.
+const KEPT_FOR_GOOD: &[Row] = &[
+    (1, Act::Resolve(Lock::Sales), Reply::Place(1)),
+    (1, Act::Try(1, Mode::X), Reply::Granted(1)),
+    (1, Act::Change(1, Edit::CreateTable("x")), Reply::Version(1)),
+    (1, Act::Change(1, Edit::Drop), Reply::Version(2)),
+    (1, Act::Release(1), Reply::Done),
+    (1, Act::Unpin(1), Reply::Done),
+    (1, Act::Resolve(Lock::Orders), NO_PLACE),
+    (2, Act::Resolve(Lock::Orders), NO_PLACE),
+    (2, Act::Resolve(Lock::Sales), Reply::Place(1)),
+    (2, Act::Unpin(1), Reply::Done),
+];
+
 const CASES: &[Case] = &[
     ("a pin is given up and had again", 1, GIVEN_UP),
     ("one call gives up a pin", 3, GIVEN_UP_ONCE),
@@ -164,6 +204,8 @@ const CASES: &[Case] = &[
     ("a place that is owed a reschedule stays pinned", 2, OWED),
     ("a release pays what keeps a pin", 1, PAID_BY_A_RELEASE),
     ("a place that is not pinned is refused first", 2, IN_ORDER),
+    ("an unpinned place is given anew", 2, GIVEN_ANEW),
+    ("a place of another version is not", 1, KEPT_FOR_GOOD),
 ];
 
 #[test]

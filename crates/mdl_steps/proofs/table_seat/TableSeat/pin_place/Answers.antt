@@ -1,5 +1,5 @@
 -- The holder of the directory's latch may pin a place.
-use Rattle.std.proofs.Common.{ℕ, ◌+◌, ◌-◌, ◌%◌, ◌^◌, ◌<◌, sym, ap, subst, arith}
+use Rattle.std.proofs.Common.{ℕ, ◌+◌, ◌%◌, ◌^◌, ◌<◌, sym, ap, subst, arith}
 use Rattle.mdl_steps.proofs.Lemmas.{Allows, IsPlace, KeyName, Keys, MayPin, Mine, ReachedFor, TableId, none, pins_place, pins_place_allowed, sits, step}
 use Rattle.mdl_steps.proofs.table_seat.TableSeat.pin_place.Goals as goal
 

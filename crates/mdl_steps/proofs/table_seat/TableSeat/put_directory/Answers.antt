@@ -1,6 +1,6 @@
 -- The holder of the directory's latch may give it back.
-use Rattle.std.proofs.Common.{◌<◌, arith, ap, ◌≡◌}
-use Rattle.mdl_steps.proofs.Lemmas.{MayDismiss, Mine, puts_directory_allowed, sits}
+use Rattle.std.proofs.Common.{◌<◌, arith, ap}
+use Rattle.mdl_steps.proofs.Lemmas.{MayDismiss, puts_directory_allowed, sits}
 use Rattle.mdl_steps.proofs.table_seat.TableSeat.put_directory.Goals as goal
 
 pub store-requires : goal.store-requires

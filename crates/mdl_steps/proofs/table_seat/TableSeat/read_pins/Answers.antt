@@ -1,5 +1,5 @@
 -- Any session may read the pins of a place.
-use Rattle.std.proofs.Common.{ℕ, ◌+◌, ◌-◌, ◌%◌, ◌^◌, ◌<◌, sym, ap, subst, arith}
+use Rattle.std.proofs.Common.{ℕ, ◌<◌, sym, ap, subst, arith}
 use Rattle.mdl_steps.proofs.Lemmas.{Allows, IsPlace, ReachedFor, TableId, none, reads_pins, reads_pins_allowed, sits, step}
 use Rattle.mdl_steps.proofs.table_seat.TableSeat.read_pins.Goals as goal
 
