@@ -44,8 +44,8 @@ loop-table-preserved c =
     let told = ap (λ (t : KnownKey). is_some (place_known t.key known)) (sym is) ∙ ap is_some (sym c.place_of.ensures) ∙ c.is_none.ensures in
     elim c.if-is_none.branch [
       | then-is_none w ↦ rw (w.seat-is) (
-        pinned_next may.0 known tables a may.1 c.requires.known i table inside b inv (told ∙ ap not w.if-is_none.true) w.pin_place.ensures.made.0 w.pin_place.new.self
-        (w.pin_place.ensures.made.1 ∙ ap (λ (t : KnownKey). record b { me = pinned_at t.place w.pin_place.ensures.made.0 b.me }) is)
-      )
+          pinned_next may.0 known tables a may.1 c.requires.known i table inside b inv (told ∙ ap not w.if-is_none.true) w.pin_place.ensures.made.0 w.pin_place.new.self
+          (w.pin_place.ensures.made.1 ∙ ap (λ (t : KnownKey). record b { me = pinned_at t.place w.pin_place.ensures.made.0 b.me }) is)
+          )
       | else-is_none w ↦ rw (w.seat-is) (known_next may.0 known tables a may.1 c.requires.known i table inside b inv (told ∙ ap not w.if-is_none.false))
     ]
