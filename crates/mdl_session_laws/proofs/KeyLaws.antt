@@ -23,8 +23,8 @@ pub session-remembers : (a b : SessionData) (call : Call) (answer : Answer) (w p
     → (call ≡ Unpin w place → answer ≡ Done → ⊥) → Joins a call answer b → Knows a w place key → Knows b w place key
 session-remembers a b call answer w place key speaks_for stays joins =
     knows-on call answer a.known b.known joins.learns place key (λ who is done.
-        let mine : SpeaksFor a who = subst (λ (x : Call). IfSome (caller x) (SpeaksFor a)) is joins.mine in
-        stays (is ∙ ap (λ (n : ℕ). Unpin n place) (mine.0 ∙ sym speaks_for.0)) done)
+    let mine : SpeaksFor a who = subst (λ (x : Call). IfSome (caller x) (SpeaksFor a)) is joins.mine in
+    stays (is ∙ ap (λ (n : ℕ). Unpin n place) (mine.0 ∙ sym speaks_for.0)) done)
 
 -- a place has one key
 pub session-one_key : (a : SessionData) (w place : ℕ) (key other : KeyName) → SpeaksFor a w → Knows a w place key → Knows a w place other → key ≡ other

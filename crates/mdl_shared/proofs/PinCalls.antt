@@ -98,8 +98,8 @@ counted-left gone known (t ∷ ts) none counted =
     let there = and_parts (not (t.place == gone)) (list_all (λ (u : SessionTicket). not (u.place == gone)) ts) none in
     let parts = and_parts (is_some (increment_at t.place t.mode known)) (are_counted known ts) counted in
     and_from (is_some (increment_at t.place t.mode (but_known gone known))) (are_counted (but_known gone known) ts)
-        (ap (λ (o : Option Kind). is_some (option_and_then (λ kind. increment_of kind t.mode) o)) (kind-left gone t.place known (not-true (t.place == gone) there.0)) ∙ parts.0)
-        (counted-left gone known ts there.1 parts.1)
+    (ap (λ (o : Option Kind). is_some (option_and_then (λ kind. increment_of kind t.mode) o)) (kind-left gone t.place known (not-true (t.place == gone) there.0)) ∙ parts.0)
+    (counted-left gone known ts there.1 parts.1)
 
 -- ---- the end of a pin
 

@@ -75,8 +75,7 @@ fn take_turn<R: Wait>(
     let named = make(alloc, session, Act::Names(place, lock)) == Reply::Is(true);
     let tried = match make(alloc, session, Act::Try(place, Mode::X)) {
         Reply::Granted(ticket) => {
-            is_alone(taken, number)
-                && make(alloc, session, Act::Release(ticket)) == Reply::Done
+            is_alone(taken, number) && make(alloc, session, Act::Release(ticket)) == Reply::Done
         }
         reply => was_answered(reply),
     };
