@@ -405,7 +405,7 @@ again-taken at step.UnlockTables r state = again-act (doing at step.UnlockTables
 again-taken at step.UnlockReads r state = again-act (doing at step.UnlockReads) st.give_up_read_lock (taken r) still-give_up refl state
 again-taken at step.Kill r state = refl
 again-taken at step.GiveBack r state = λ held.
-    let key = user_lock_key (plan.name_of at) in
+    let key = plan.first_key r in
     again-then (doing at step.GiveBack) (st.give_back key held) (λ said. row.Give (replying said (taken r))) (still-give_back key held) (λ said later. refl) state
 
 again-step : (at : Statement) (s : Step) (r : Registers) → r.granted ≡ None → (state : State) → Again (doing at s) state (doing at s r)

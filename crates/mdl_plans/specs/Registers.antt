@@ -47,9 +47,9 @@ with_ticket ticket r = record r { tickets = r.tickets ++ ticket ∷ []; granted 
 abbrev pub holding : KeyName → ℕ → Registers → Registers
 holding key ticket r = record r { keys = key ∷ []; tickets = ticket ∷ []; granted = None }
 
--- with the keys named last, and their tickets, as the statement's scopes
+-- the keys named last, and their tickets, become the statement's scopes, and no key is named
 abbrev pub keeping_scopes : Registers → Registers
-keeping_scopes r = record r { scope_keys = r.keys; scopes = r.tickets }
+keeping_scopes r = record r { keys = []; tickets = []; scope_keys = r.keys; scopes = r.tickets }
 
 -- with these tables shown
 abbrev pub showing : List TableShown → Registers → Registers

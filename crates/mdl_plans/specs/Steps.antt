@@ -155,6 +155,10 @@ commit_under r = do
   end_under lock
   Give (taken r)
 
+-- the first of the keys named last
+abbrev pub first_key : Registers → KeyName
+first_key r = get_or r.keys 0 global_key
+
 -- ---- tickets
 
 -- the first ticket of the keys named last: that of the statement's table
@@ -235,7 +239,7 @@ doing at step.LockCommits r = do
   set (with_commits_locked commit)
   Give (taken r)
 doing at step.LockUser r = do
-  getting (record { key = user_lock_key (name_of at); mode = X; duration = for.Explicit }) r
+  getting (record { key = first_key r; mode = X; duration = for.Explicit }) r
   Give (replying (reply.Number true) r)
 doing at step.SchemaExists r = check_schema (schema_ticket at r) >> Give r
 doing at step.SchemaMayChange r = can_change (schema_ticket at r) >> Give r
@@ -264,8 +268,8 @@ doing at step.UnlockTables r = unlock_tables >> Give r
 doing at step.UnlockReads r = give_up_read_lock >> Give r
 doing at step.Kill r = kill (target_of at) >> Give r
 doing at step.GiveBack r = do
-  held ← last_of (user_lock_key (name_of at))
-  reply ← give_back (user_lock_key (name_of at)) held
+  held ← last_of (first_key r)
+  reply ← give_back (first_key r) held
   Give (replying reply r)
 
 -- ---- plans

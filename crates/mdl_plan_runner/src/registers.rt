@@ -1,0 +1,109 @@
+//! What a statement keeps from one step of its plan to the next.
+ghost use Rattle.std.specs.Prelude.{◌≡◌, [], None, OnOk};
+ghost use Rattle.mdl_syntax.specs.declared.statement.Statement.{Statement};
+ghost use Rattle.mdl_plans.specs.Registers.{fresh};
+ghost use Rattle.mdl_plan_runner.specs.declared.got.Went.TheVariants.{On};
+ghost use Rattle.mdl_plan_runner.specs.declared.named.Named.TheVariants.{Listed, Table};
+ghost use Rattle.mdl_plan_runner.specs.Held.{registers_of, reply_of};
+
+use crate::got::Went;
+use crate::lock_list::LockList;
+use crate::named::Named;
+use crate::{Reply, TablesShown};
+use mdl_defs::Definition;
+use mdl_key::Key;
+use mdl_space::TicketId;
+use std::alloc::{AllocError, Global};
+use std::mem::{drop, replace};
+
+/// What a statement keeps.
+#[derive(Drop)]
+pub struct Registers {
+    // The keys named last.
+    pub(crate) named: Named,
+    // The keys of the statement's scopes.
+    pub(crate) scopes: Named,
+    // The tables shown so far.
+    pub(crate) shown: TablesShown,
+    // The definition that is moved.
+    pub(crate) moved: Option<Definition>,
+    // The reply, if no step is left.
+    pub(crate) answer: Answer,
+    // The ticket of a lock for which the statement waited, until the step that waited takes it.
+    pub(crate) granted: Option<TicketId>,
+}
+
+/// The reply of a statement that is done.
+#[derive(Clone, Copy)]
+pub enum Answer {
+    /// Nothing to show.
+    Ok,
+    /// A truth value.
+    Number(bool),
+    /// NULL.
+    Null,
+    /// The tables shown.
+    Shown,
+}
+
+impl Registers {
+    /// Creates the registers of a statement that begins. Takes no memory.
+    pub(crate) fn new(alloc: Global) -> Registers
+        ensures { (at : Statement) → registers_of at result ≡ fresh }
+    {
+        Registers {
+            named: Named::Listed(LockList::empty(alloc)),
+            scopes: Named::Listed(LockList::empty(alloc)),
+            shown: TablesShown::new(alloc),
+            moved: None,
+            answer: Answer::Ok,
+            granted: None,
+        }
+    }
+
+    /// Names keys, none of which is locked yet.
+    pub(crate) fn name(&mut self, alloc: Global, keys: Vec<Key>) -> Result<(), AllocError>
+        ensures { OnOk result (self.new ≡ record self.old { named = Listed (record { keys = keys.items; tickets = [] }) }) }
+    {
+        let locks = LockList::new(alloc, keys)?;
+        drop(replace(&mut self.named, Named::Listed(locks)));
+        Ok(())
+    }
+
+    /// Names the statement's table, which is locked with this ticket.
+    pub(crate) fn hold_table(&mut self, ticket: TicketId)
+        ensures { self.new ≡ record self.old { named = Table ticket } }
+    {
+        drop(replace(&mut self.named, Named::Table(ticket)));
+    }
+
+    /// Makes the keys named last the scopes.
+    pub(crate) fn keep_scopes(&mut self, alloc: Global)
+        ensures { self.new ≡ record self.old { named = Listed (record { keys = []; tickets = [] }); scopes = self.old.named } }
+    {
+        let named = replace(&mut self.named, Named::Listed(LockList::empty(alloc)));
+        drop(replace(&mut self.scopes, named));
+    }
+
+    /// Notes the reply, and that the step which waited is done.
+    pub(crate) fn end_with(&mut self, answer: Answer) -> Went
+        ensures on { result ≡ On }
+        ensures noted { self.new ≡ record self.old { answer = answer; granted = None } }
+    {
+        self.answer = answer;
+        self.granted = None;
+        Went::On
+    }
+
+    /// The reply, which takes the tables shown.
+    pub(crate) fn reply(&mut self, alloc: Global) -> Reply
+        ensures { result ≡ reply_of self.old.answer self.old.shown }
+    {
+        match self.answer {
+            Answer::Ok => Reply::Ok,
+            Answer::Number(one) => Reply::Number(one),
+            Answer::Null => Reply::Null,
+            Answer::Shown => Reply::Columns(replace(&mut self.shown, TablesShown::new(alloc))),
+        }
+    }
+}
