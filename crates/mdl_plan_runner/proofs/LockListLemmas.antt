@@ -16,16 +16,12 @@ use Rattle.mdl_context.specs.Wishes.{Wish}
 use Rattle.mdl_rows.specs.declared.ending.Ending.{Ending}
 use Rattle.mdl_plan_runner.specs.declared.got.LockResult.TheVariants.{Had}
 use Rattle.mdl_plan_runner.specs.declared.got.LockResult.TheVariants as got
-use Rattle.mdl_plan_runner.specs.declared.got.Listed.TheVariants as listed
 use Rattle.mdl_rows.specs.declared.reply.Reply.{Reply}
-use Rattle.mdl_plan_runner.specs.declared.lock_list.Locking.{Locking}
-use Rattle.mdl_plan_runner.specs.declared.lock_list.Locking.TheVariants.{Ddl, Tables}
-use Rattle.mdl_plan_runner.specs.Gets.{Comes, IsGot, IsListedBy}
+use Rattle.mdl_plan_runner.specs.Gets.{Comes, IsGot}
 use Rattle.mdl_plan_runner.specs.LockLists.{LockList, with_next_ticket}
 use Rattle.mdl_rows.specs.Playing.{play}
 use Rattle.mdl_rows.specs.Rows.{Row, Give, Acquire, acquire_all, ◌>>=◌}
 use Rattle.mdl_plan_runner.specs.Players.{PlayerView}
-use Rattle.mdl_plan_runner.specs.Stages.{lock_rest_by, wish_by}
 use Rattle.mdl_rows.specs.Statements.{ddl_lock, table_lock}
 use Rattle.mdl_plan_runner.proofs.CallLemmas.{comes-row}
 use Rattle.mdl_plan_runner.proofs.OrderLemmas.{from-element, slice-past}

@@ -40,8 +40,8 @@ module _ {S E : Type 0} (members : Ghosts S) (laws : LawsOf members) (a b : S) w
   leaves-just program before after result leaves attends run just =
       let back = seen-back members.joins program (pause_seen (ran result after)) a b run in
       subst (PinsJustNeeded members b)
-      (sym (seen-context back.0) ∙ ap (λ (p : Pause). (session_of_pause p).context) back.1.0 ∙ session-told result after)
-      (leaves a b back.0 (record { attends = attends; just = just }) back.1.1).0.just
+      (sym (seen-context back.0) ∙ ap (λ (p : Pause). (session_of_pause p).context) back.1 ∙ session-told result after)
+      (leaves a b back.0 (record { attends = attends; just = just }) back.2).0.just
 
   -- one that starts
   pub starts-just : (statement : Statement) (before after : RunnerView) (result : Result Progress E) → Attends members a before.context → before.context.wait ≡ None

@@ -25,9 +25,9 @@ module _ {S : Type 0} (joins : S → Call → Answer → S → Type 0) where
       (told : Pause) × (pause_seen told ≡ pause) × Runs joins a program told b
   seen-back (Give x) pause a b (same, here) = (x, same, (refl, here))
   seen-back (Ask call then) pause a b (answer, mid, step, run) =
-      let back = seen-back (then answer) pause mid b run in (back.0, back.1.0, (answer, mid, step, back.1.1))
-  seen-back (Grow refused found) pause a b (inl run) = let back = seen-back refused pause a b run in (back.0, back.1.0, inl back.1.1)
-  seen-back (Grow refused found) pause a b (inr run) = let back = seen-back found pause a b run in (back.0, back.1.0, inr back.1.1)
+      let back = seen-back (then answer) pause mid b run in (back.0, back.1, (answer, mid, step, back.2))
+  seen-back (Grow refused found) pause a b (inl run) = let back = seen-back refused pause a b run in (back.0, back.1, inl back.2)
+  seen-back (Grow refused found) pause a b (inr run) = let back = seen-back found pause a b run in (back.0, back.1, inr back.2)
 
   -- one program, and then what the other is with that filled in
   pub seen-bind : {A : Type 0} (first : Program A) (next : A → Program Pause) (a b : S) (pause : Pause) →

@@ -39,7 +39,7 @@ waits-just {rest = rest} waits = record { left = rest; same = λ ticket. refl; w
 
 -- ---- a lock, and then the rest of a step
 
-module _ {S : Type 0} {members : Ghosts S} {a b : S} {x y : PlayerView} {granted : Option ℕ} {ask : Row ℕ} {mode : Mode} (next : ℕ → Row Registers) where
+module _ {S : Type 0} (members : Ghosts S) (a b : S) (x y : PlayerView) (granted : Option ℕ) (ask : Row ℕ) (mode : Mode) (next : ℕ → Row Registers) where
   -- it is had
   pub had-next : (id : ℕ) → IsGotBy members (or_granted granted ask) mode a x (got.Had id) b y → (rest : Registers → Row Reply) →
       Comes members a x (play ((or_granted granted ask >>= next) >>= rest)) b y (play (next id >>= rest))
@@ -58,34 +58,29 @@ module _ {S : Type 0} {members : Ghosts S} {a b : S} {x y : PlayerView} {granted
 -- ---- steps that don't wait
 
 -- an act, with the same registers
-pub act-made : {S : Type 0} {members : Ghosts S} {a b : S} {x y : PlayerView} (step : Registers → Row Registers) (act : Act) (r : Registers) (result : Result (Unit {0}) Ending) →
+pub act-made : {S : Type 0} (members : Ghosts S) (a b : S) (x y : PlayerView) (step : Registers → Row Registers) (act : Act) (r : Registers) (result : Result (Unit {0}) Ending) →
     step r ≡ act >> Give r → IsStep members act a x result b y → IsMadeBy members step a x r (went_of result) b y r
-act-made step act r (Ok t) same made rest =
+act-made members a b x y step act r (Ok t) same made = λ rest.
     comes-then (comes-row _ _ (ap (λ (m : Row Registers). m >>= rest) same ∙ bind-assoc act (λ _. Give r) rest)) (made (λ _. rest r))
-act-made step act r (Err ending) same made rest =
+act-made members a b x y step act r (Err ending) same made = λ rest.
     comes-then (comes-row _ _ (ap (λ (m : Row Registers). m >>= rest) same ∙ bind-assoc act (λ _. Give r) rest)) (made (λ _. rest r))
 
 -- ---- locks that were granted
 
-pub got-none : {S : Type 0} {members : Ghosts S} {a b : S} {x y : PlayerView} (wish : Wish) (granted : Option ℕ) (result : LockResult ℕ) → granted ≡ None →
+pub got-none : {S : Type 0} (members : Ghosts S) (a b : S) (x y : PlayerView) (wish : Wish) (granted : Option ℕ) (result : LockResult ℕ) → granted ≡ None →
     IsGot members wish a x result b y → IsGotBy members (or_granted granted (Acquire wish Give)) wish.mode a x result b y
-got-none {members = members} {a} {b} {x} {y} wish granted (got.Had id) none made rest =
+got-none members a b x y wish granted (got.Had id) none made = λ rest.
     subst (λ (g : Option ℕ). Comes members a x (play (or_granted g (Acquire wish Give) >>= rest)) b y (play (rest id))) (sym none) (made rest)
-got-none {members = members} {a} {b} {x} {y} wish granted (got.Waits key) none made rest =
+got-none members a b x y wish granted (got.Waits key) none made = λ rest.
     subst (λ (g : Option ℕ). Waits members a x (play (or_granted g (Acquire wish Give) >>= rest)) key wish.mode rest b y) (sym none) (made rest)
-got-none {members = members} {a} {b} {x} {y} wish granted (got.Ends ending) none made rest =
+got-none members a b x y wish granted (got.Ends ending) none made = λ rest.
     subst (λ (g : Option ℕ). Comes members a x (play (or_granted g (Acquire wish Give) >>= rest)) b y (closing ending)) (sym none) (made rest)
 
-pub raised-none : {S : Type 0} {members : Ghosts S} {a b : S} {x y : PlayerView} (id : ℕ) (key : KeyName) (mode : Mode) (granted : Option ℕ) (result : LockResult ℕ) → granted ≡ None →
+pub raised-none : {S : Type 0} (members : Ghosts S) (a b : S) (x y : PlayerView) (id : ℕ) (key : KeyName) (mode : Mode) (granted : Option ℕ) (result : LockResult ℕ) → granted ≡ None →
     IsUpgradeResult members id key mode a x result b y → IsGotBy members (or_granted granted (upgrade id key mode)) mode a x result b y
-raised-none {members = members} {a} {b} {x} {y} id key mode granted (got.Had new) none made rest =
+raised-none members a b x y id key mode granted (got.Had new) none made = λ rest.
     subst (λ (g : Option ℕ). Comes members a x (play (or_granted g (upgrade id key mode) >>= rest)) b y (play (rest new))) (sym none) (made rest)
-raised-none {members = members} {a} {b} {x} {y} id key mode granted (got.Waits told) none made rest =
+raised-none members a b x y id key mode granted (got.Waits told) none made = λ rest.
     subst (λ (g : Option ℕ). Waits members a x (play (or_granted g (upgrade id key mode) >>= rest)) told mode rest b y) (sym none) (made rest)
-raised-none {members = members} {a} {b} {x} {y} id key mode granted (got.Ends ending) none made rest =
+raised-none members a b x y id key mode granted (got.Ends ending) none made = λ rest.
     subst (λ (g : Option ℕ). Comes members a x (play (or_granted g (upgrade id key mode) >>= rest)) b y (closing ending)) (sym none) (made rest)
-
-pub got-granted : {S : Type 0} {members : Ghosts S} {a : S} {x : PlayerView} (ask : Row ℕ) (mode : Mode) (granted : Option ℕ) (id : ℕ) → granted ≡ Some id →
-    IsGotBy members (or_granted granted ask) mode a x (got.Had id) a x
-got-granted {members = members} {a} {x} ask mode granted id some rest =
-    subst (λ (g : Option ℕ). Comes members a x (play (or_granted g ask >>= rest)) a x (play (rest id))) (sym some) (comes-same members a x (play (rest id)))

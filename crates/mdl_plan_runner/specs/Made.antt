@@ -1,5 +1,5 @@
 -- What the code returns about a step that it made, and about a plan.
-use Rattle.std.specs.Prelude.{◌≡◌, ℕ, List, [], drop, Option, None, Result, Ok, Err}
+use Rattle.std.specs.Prelude.{◌≡◌, ℕ, Bool, List, drop, Option, Some, None, Result, Ok, Err}
 use Rattle.std.specs.Option.{option_map}
 use Rattle.mdl_key.specs.declared.mode.Mode.{Mode}
 use Rattle.mdl_key.specs.Keys.{KeyName}
@@ -28,10 +28,9 @@ use Rattle.mdl_plan_runner.specs.declared.got.Went.{Went}
 use Rattle.mdl_plan_runner.specs.declared.got.Went.TheVariants as went
 use Rattle.mdl_plan_runner.specs.declared.got.Played.{Played}
 use Rattle.mdl_plan_runner.specs.declared.got.Played.TheVariants as played
-use Rattle.mdl_plan_runner.specs.declared.registers.Answer.{Answer}
 use Rattle.mdl_plan_runner.specs.declared.registers.Registers.{Registers}
 use Rattle.mdl_plan_runner.specs.Gets.{Comes, Waits}
-use Rattle.mdl_plan_runner.specs.Held.{registers_of, reply_of}
+use Rattle.mdl_plan_runner.specs.Held.{registers_of}
 use Rattle.mdl_plan_runner.specs.Players.{PlayerView, RunnerView, WorkView}
 
 -- a session's work runs until it begins to wait for this lock. What is left then is this rest, in a session of the state after it
@@ -110,9 +109,10 @@ abbrev pub said_ok : Result (Unit {0}) Ending → Result Reply Ending
 said_ok (Ok _) = Ok reply.Ok
 said_ok (Err ending) = Err ending
 
--- the reply of a step that shows no tables
-abbrev pub said : Result Answer Ending → Result Reply Ending
-said (Ok answer) = Ok (reply_of answer [])
+-- the reply of RELEASE_LOCK: a truth value, or NULL
+abbrev pub said : Result (Option Bool) Ending → Result Reply Ending
+said (Ok (Some one)) = Ok (reply.Number one)
+said (Ok None) = Ok reply.Null
 said (Err ending) = Err ending
 
 -- one more table was shown

@@ -1,6 +1,10 @@
 //! A session as its statements use it: its locks, its state and its cache.
 ghost use Rattle.std.specs.Prelude.{◌≡◌, None, Ok, IfOk, [], is_some};
 ghost use Rattle.mdl_plan_runner.specs.Attendance.{AttendsWith, GoesOn, IsCapacity, IsReady};
+ghost use Rattle.mdl_context.specs.Contexts.{current_mark};
+ghost use Rattle.mdl_plan_runner.specs.Held.{registers_of};
+ghost use Rattle.mdl_plans.specs.Registers.{fresh};
+ghost use Rattle.mdl_syntax.specs.declared.statement.Statement.{Statement};
 ghost use Rattle.mdl_context.specs.Wishes.{Wish, wish_of_request};
 ghost use Rattle.mdl_rows.specs.Endings.{closing, ending_of_error, ending_of_refusal, ending_of_loss};
 ghost use Rattle.mdl_plan_runner.specs.Gets.{at_rest, IsDropped, IsGot, IsUpgradeResult, IsStep, IsReportedWait, IdleUnlessGot};
@@ -13,7 +17,7 @@ use crate::got::LockResult;
 use crate::registers::Registers;
 use crate::savepoint::Savepoints;
 use crate::{ErrorNumber, OutOfMemory, Reply};
-use mdl_context::{Acquire, Context, ContextError, Request, Resume, Tried};
+use mdl_context::{Acquire, Context, ContextError, Mark, Request, Resume, Tried};
 use mdl_defs::{CacheError, DefCache};
 use mdl_key::{Key, Mode};
 use mdl_plans::Standing;
@@ -62,6 +66,20 @@ impl<S: LockSpace> Player<S> {
             Err(CacheError::OutOfMemory) => Err(OutOfMemory),
             Err(CacheError::BadCapacity) => unreachable!(),
         }
+    }
+
+    /// The session's current mark.
+    pub(crate) fn mark(&self) -> Mark
+        ensures { result ≡ current_mark self.now.context.kept }
+    {
+        self.context.savepoint()
+    }
+
+    /// The registers of a statement that begins. Takes no memory.
+    pub(crate) fn registers(&self) -> Registers
+        ensures { (at : Statement) → registers_of at result ≡ fresh }
+    {
+        Registers::new(self.alloc)
     }
 
     /// What the session has when a statement begins.

@@ -1,5 +1,5 @@
 //! How a session reads and changes definitions, and kills waits.
-ghost use Rattle.std.specs.Prelude.{◌≡◌, ◌++◌, ◌∷◌, [], None, Ok, MatchResult};
+ghost use Rattle.std.specs.Prelude.{◌≡◌, ◌+◌, ◌++◌, ◌∷◌, [], None, Ok, IfOk, MatchResult, length};
 ghost use Rattle.mdl_plan_runner.specs.Attendance.{GoesOn, IsReady};
 ghost use Rattle.mdl_plan_runner.specs.Gets.{IsStep, items_told};
 ghost use Rattle.mdl_rows.specs.Rows.{read, redefine, tables_within, key_of, kill};
@@ -129,6 +129,7 @@ impl<S: LockSpace> Player<S> {
         ensures run { IsStep S.LockSpace (show shown table.now ticket) space.old self.old result space.new self.new }
         ensures goes_on { GoesOn S.LockSpace space.old self.old space.new self.new }
         ensures idle { self.new.context.wait ≡ None }
+        ensures more { IfOk result (λ more. length more ≡ length shown + 1) }
     {
         let standing = match self.exists(space, ticket) {
             Ok(standing) => standing,

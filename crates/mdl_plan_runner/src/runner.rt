@@ -21,7 +21,7 @@ use crate::player::{Player, ending_of_error, ending_of_loss};
 use crate::registers::Registers;
 use crate::{OutOfMemory, Progress};
 use mdl_context::{Mark, Resume};
-use mdl_plans::{Standing, Step, plan_of};
+use mdl_plans::{Step, plan_of};
 use mdl_rows::Ending;
 use mdl_space::{LockSpace, TicketId};
 use std::alloc::Global;
@@ -92,10 +92,9 @@ impl<S: LockSpace, T: Holds + Drop> Runner<S, T> {
         ensures who { self.new.context.who ≡ self.old.context.who }
         ensures capacity { self.new.cache.capacity ≡ self.old.cache.capacity }
     {
-        let mark = self.player.context.savepoint();
-        let standing = self.player.standing();
-        let plan = plan_of(standing, statement.statement());
-        let mut registers = Registers::new(self.player.alloc);
+        let mark = self.player.mark();
+        let plan = plan_of(self.player.standing(), statement.statement());
+        let mut registers = self.player.registers();
         match self
             .player
             .play(space, &mut registers, statement.statement(), plan, 0)

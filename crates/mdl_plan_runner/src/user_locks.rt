@@ -2,6 +2,7 @@
 ghost use Rattle.std.specs.Prelude.{◌≡◌, None};
 ghost use Rattle.mdl_rows.specs.Statements.{give_back};
 ghost use Rattle.mdl_plans.specs.declared.step.Step.TheVariants.{GiveBack};
+ghost use Rattle.mdl_plan_runner.specs.Acts.{giving_back};
 ghost use Rattle.mdl_plan_runner.specs.Attendance.{GoesOn, IsReady};
 ghost use Rattle.mdl_plan_runner.specs.Gets.{IsStep};
 ghost use Rattle.mdl_plan_runner.specs.Made.{IdleUnlessWent, IsMade, said};
@@ -32,22 +33,32 @@ impl<S: LockSpace> Player<S> {
     {
         let global = Key::global(self.alloc);
         let lock = registers.named.first_key(table_of(statement, &global), &global);
-        let answer = match self.context.last_ticket(lock) {
+        match self.release_last(space, lock) {
+            Ok(Some(held)) => registers.end_with(Answer::Number(held)),
+            Ok(None) => registers.end_with(Answer::Null),
+            Err(ending) => Went::Ends(ending),
+        }
+    }
+
+    /// Releases the session's last ticket of a lock. If it has none, finds out whether another session holds the lock.
+    fn release_last(&mut self, space: &mut S, lock: &Key) -> Result<Option<bool>, Ending>
+        requires ready { IsReady S.LockSpace space.old self.old }
+        ensures run { IsStep S.LockSpace (giving_back lock.now) space.old self.old (said result) space.new self.new }
+        ensures goes_on { GoesOn S.LockSpace space.old self.old space.new self.new }
+        ensures idle { self.new.context.wait ≡ None }
+    {
+        match self.context.last_ticket(lock) {
             Some(last) => {
                 self.release(space, last);
-                Ok(Answer::Number(true))
+                Ok(Some(true))
             }
             None => self.look_for_holder(space, lock),
-        };
-        match answer {
-            Ok(answer) => registers.end_with(answer),
-            Err(ending) => Went::Ends(ending),
         }
     }
 
     /// Finds out whether another session holds a lock that this one doesn't hold. If none does, this session gets the lock, and
     /// releases it at once.
-    fn look_for_holder(&mut self, space: &mut S, lock: &Key) -> Result<Answer, Ending>
+    fn look_for_holder(&mut self, space: &mut S, lock: &Key) -> Result<Option<bool>, Ending>
         requires ready { IsReady S.LockSpace space.old self.old }
         ensures run { IsStep S.LockSpace (give_back lock.now None) space.old self.old (said result) space.new self.new }
         ensures goes_on { GoesOn S.LockSpace space.old self.old space.new self.new }
@@ -61,9 +72,9 @@ impl<S: LockSpace> Player<S> {
         match self.try_to_get(space, request) {
             Ok(Some(ticket)) => {
                 self.release(space, ticket);
-                Ok(Answer::Null)
+                Ok(None)
             }
-            Ok(None) => Ok(Answer::Number(false)),
+            Ok(None) => Ok(Some(false)),
             Err(ending) => Err(ending),
         }
     }

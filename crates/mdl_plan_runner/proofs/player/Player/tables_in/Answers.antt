@@ -1,5 +1,5 @@
 -- The places are told, and then their keys.
-use Rattle.std.proofs.Common.{ℕ, List, [], Ok, Err, subst}
+use Rattle.std.proofs.Common.{ℕ, List, [], subst}
 use Rattle.mdl_key.specs.Keys.{KeyName}
 use Rattle.mdl_plan_runner.specs.Gets.{IsStep, items_told}
 use Rattle.mdl_rows.specs.Rows.{tables_within, ◌>>=◌}
@@ -10,13 +10,9 @@ use Rattle.mdl_plan_runner.proofs.player.Player.tables_in.Goals as goal
 pub returns-in-Ok-clause-run : goal.returns-in-Ok-clause-run
 returns-in-Ok-clause-run g c =
     step-then g.S.LockSpace (tables_within c.args.name.now) (keys_of_places []) c.args.space.now c.tables_of.new.space c.keys_of.new.space c.args.self.now c.tables_of.new.self c.keys_of.new.self
-    c.in-Ok.places.items (items_told c.keys_of.result)
-    (subst (λ (n : List ℕ). IsStep g.S.LockSpace (tables_within n) c.args.space.now c.args.self.now (items_told (Ok c.in-Ok.places)) c.tables_of.new.space c.tables_of.new.self) c.as_str.ensures
-    (rw c.in-Ok.is at c.tables_of.ensures.run))
+    c.in-Ok.places.items (items_told c.keys_of.result) (rw c.in-Ok.is at c.tables_of.ensures.run)
     (subst (λ (l : List ℕ). IsStep {A = List KeyName} g.S.LockSpace (keys_of_places [] l) c.tables_of.new.space c.tables_of.new.self (items_told c.keys_of.result) c.keys_of.new.space c.keys_of.new.self)
     c.deref.ensures.value c.keys_of.ensures.run)
 
 pub returns-in-Err-clause-run : goal.returns-in-Err-clause-run
-returns-in-Err-clause-run g c = λ rest.
-    (subst (λ (n : List ℕ). IsStep {A = List ℕ} g.S.LockSpace (tables_within n) c.args.space.now c.args.self.now (Err c.in-Err.ending) c.tables_of.new.space c.tables_of.new.self) c.as_str.ensures
-    (rw c.in-Err.is at c.tables_of.ensures.run)) (λ places. keys_of_places [] places >>= rest)
+returns-in-Err-clause-run g c = λ rest. (rw c.in-Err.is at c.tables_of.ensures.run) (λ places. keys_of_places [] places >>= rest)
