@@ -1,23 +1,30 @@
 -- Acts, one after another, and steps that say something.
-use Rattle.std.proofs.Common.{◌≡◌, ℕ, List, [], None, Result, Ok, Err, sym, ap, ◌∙◌, subst}
+use Rattle.std.proofs.Common.{◌≡◌, ℕ, Option, Some, None, Result, Ok, Err, sym, ap, ◌∙◌, subst}
+use Rattle.mdl_key.specs.Keys.{KeyName}
+use Rattle.mdl_defs.specs.declared.change.Change.TheVariants as change
+use Rattle.mdl_defs.specs.declared.definition.Definition.{Definition}
 use Rattle.mdl_calls.specs.declared.lock_space.LockSpace.{Ghosts}
+use Rattle.mdl_calls.specs.Words.{Runs}
+use Rattle.mdl_context.specs.Contexts.{last_ticket}
 use Rattle.mdl_syntax.specs.declared.statement.Statement.{Statement}
 use Rattle.mdl_rows.specs.declared.ending.Ending.{Ending}
 use Rattle.mdl_rows.specs.declared.reply.Reply.{Reply}
-use Rattle.mdl_rows.specs.declared.reply.TableShown.{TableShown}
 use Rattle.mdl_rows.specs.Endings.{closing}
 use Rattle.mdl_rows.specs.Playing.{play}
+use Rattle.mdl_rows.specs.Statements.{give_back}
 use Rattle.mdl_rows.specs.Rows.{Row, Act, Give, ◌>>=◌, ◌>>◌}
 use Rattle.mdl_plans.specs.declared.step.Step.{Step}
 use Rattle.mdl_plans.specs.Registers.{replying}
 use Rattle.mdl_plans.specs.Registers as plan
-use Rattle.mdl_plans.specs.Steps.{doing}
+use Rattle.mdl_plans.specs.Steps.{doing, move, new_ticket, old_ticket}
+use Rattle.mdl_plans.specs.declared.step.Step.TheVariants as step
 use Rattle.mdl_plan_runner.specs.declared.got.Went.{Went}
 use Rattle.mdl_plan_runner.specs.declared.got.Went.TheVariants as went
-use Rattle.mdl_plan_runner.specs.declared.registers.Answer.{Answer}
 use Rattle.mdl_plan_runner.specs.declared.registers.Registers.{Registers}
-use Rattle.mdl_plan_runner.specs.Gets.{Comes, IsStep}
-use Rattle.mdl_plan_runner.specs.Held.{registers_of, reply_of}
+use Rattle.mdl_plan_runner.specs.Acts.{giving_back, put_and_drop}
+use Rattle.mdl_plan_runner.specs.Attendance.{cached}
+use Rattle.mdl_plan_runner.specs.Gets.{Comes, IsStep, at_rest}
+use Rattle.mdl_plan_runner.specs.Held.{registers_of}
 use Rattle.mdl_plan_runner.specs.Made.{IsMade, went_of}
 use Rattle.mdl_plan_runner.specs.Players.{PlayerView}
 use Rattle.mdl_plan_runner.proofs.CallLemmas.{comes-row}
@@ -36,30 +43,58 @@ pub step-ends : {S : Type 0} (members : Ghosts S) (a b : S) (x y : PlayerView) (
 step-ends members a b x y first second ending one = λ rest. comes-then (comes-row _ _ (bind-assoc first (λ _. second) rest)) (one (λ _. second >>= rest))
 
 -- a step that is an act, with what is kept unchanged
-pub plain : {S : Type 0} (members : Ghosts S) (at : Statement) (a b : S) (x y : PlayerView) (step known : Step) (act : Act) (kept : Registers) (result : Result (Unit {0}) Ending) (how : Went) →
-    step ≡ known → how ≡ went_of result → doing at known (registers_of at kept) ≡ act >> Give (registers_of at kept) → IsStep members act a x result b y → IsMade members at step a x kept how b y kept
-plain members at a b x y step known act kept result how is made same done =
+pub plain : {S : Type 0} (members : Ghosts S) (at : Statement) (a b : S) (x y : PlayerView) (made_of known : Step) (act : Act) (kept : Registers) (result : Result (Unit {0}) Ending) (how : Went) →
+    made_of ≡ known → how ≡ went_of result → doing at known (registers_of at kept) ≡ act >> Give (registers_of at kept) → IsStep members act a x result b y → IsMade members at made_of a x kept how b y kept
+plain members at a b x y made_of known act kept result how is made same done =
     subst (λ (s : Step). IsMade members at s a x kept how b y kept) (sym is)
     (subst (λ (w : Went). IsMade members at known a x kept w b y kept) (sym made)
     (act-made members a b x y (doing at known) act (registers_of at kept) result same done))
 
 -- a step that is another one's name
-pub named-step : {S : Type 0} (members : Ghosts S) (at : Statement) (a b : S) (x y : PlayerView) (step known : Step) (kept new : Registers) (how : Went) →
-    step ≡ known → IsMade members at known a x kept how b y new → IsMade members at step a x kept how b y new
-named-step members at a b x y step known kept new how is made = subst (λ (s : Step). IsMade members at s a x kept how b y new) (sym is) made
+pub named-step : {S : Type 0} (members : Ghosts S) (at : Statement) (a b : S) (x y : PlayerView) (made_of known : Step) (kept new : Registers) (how : Went) →
+    made_of ≡ known → IsMade members at known a x kept how b y new → IsMade members at made_of a x kept how b y new
+named-step members at a b x y made_of known kept new how is made = subst (λ (s : Step). IsMade members at s a x kept how b y new) (sym is) made
 
 -- a step that says something
-module _ {S : Type 0} (members : Ghosts S) (at : Statement) (a b : S) (x y : PlayerView) (step : Step) (row : Row Reply) (kept : Registers)
-    (is : doing at step (registers_of at kept) ≡ row >>= (λ said. Give (replying said (registers_of at kept)))) where
-  pub said-made : (new : Registers) (answer : Answer) (reply : Reply) (how : Went) → how ≡ went.On → new ≡ record kept { answer = answer; granted = None } → reply_of answer kept.shown ≡ reply →
-      IsStep members row a x (Ok reply) b y → IsMade members at step a x kept how b y new
-  said-made new answer reply how on same says made =
-      subst (λ (w : Went). IsMade members at step a x kept w b y new) (sym on) (λ rest.
+module _ {S : Type 0} (members : Ghosts S) (at : Statement) (a b : S) (x y : PlayerView) (one : Step) (row : Row Reply) (kept : Registers)
+    (is : doing at one (registers_of at kept) ≡ row >>= (λ said. Give (replying said (registers_of at kept)))) where
+  pub said-made : (new : Registers) (reply : Reply) (how : Went) → how ≡ went.On → new ≡ record kept { reply = reply; granted = None } →
+      IsStep members row a x (Ok reply) b y → IsMade members at one a x kept how b y new
+  said-made new reply how on same made =
+      subst (λ (w : Went). IsMade members at one a x kept w b y new) (sym on) (λ rest.
       comes-then (comes-row _ _ (ap (λ (m : Row plan.Registers). m >>= rest) is ∙ bind-assoc row (λ said. Give (replying said (registers_of at kept))) rest))
       (comes-then (made (λ said. rest (replying said (registers_of at kept))))
-      (comes-row _ _ (ap (λ (r : Reply). rest (replying r (registers_of at kept))) (sym says) ∙ ap (λ (k : Registers). rest (registers_of at k)) (sym same)))))
+      (comes-row _ _ (ap (λ (k : Registers). rest (registers_of at k)) (sym same)))))
 
-  pub said-ends : (new : Registers) (ending : Ending) → IsStep members row a x (Err ending) b y → IsMade members at step a x kept (went.Ends ending) b y new
+  pub said-ends : (new : Registers) (ending : Ending) → IsStep members row a x (Err ending) b y → IsMade members at one a x kept (went.Ends ending) b y new
   said-ends new ending made = λ rest.
       comes-then (comes-row _ _ (ap (λ (m : Row plan.Registers). m >>= rest) is ∙ bind-assoc row (λ said. Give (replying said (registers_of at kept))) rest))
       (made (λ said. rest (replying said (registers_of at kept))))
+
+-- ---- RELEASE_LOCK
+
+-- the ticket of a lock that was gained last is looked up
+pub looked-so : {S : Type 0} (members : Ghosts S) (lock : KeyName) (held : Option ℕ) (a b : S) (x y : PlayerView) (result : Result Reply Ending) → last_ticket lock x.context ≡ held →
+    IsStep members (give_back lock held) a x result b y → IsStep members (giving_back lock) a x result b y
+looked-so members lock held a b x y (Ok reply) is made = λ rest. record {
+  so = λ mark pause c run.
+      subst (λ (h : Option ℕ). Runs (cached members) (a, x.cache) (play (give_back lock h >>= rest) mark (at_rest x)) pause c) (sym is) ((made rest).so mark pause c run);
+}
+looked-so members lock held a b x y (Err ending) is made = λ rest. record {
+  so = λ mark pause c run.
+      subst (λ (h : Option ℕ). Runs (cached members) (a, x.cache) (play (give_back lock h >>= rest) mark (at_rest x)) pause c) (sym is) ((made rest).so mark pause c run);
+}
+
+-- ---- RENAME TABLE
+
+-- the kept definition is moved
+pub moved-made : {S : Type 0} (members : Ghosts S) (at : Statement) (a b : S) (x y : PlayerView) (kept new : Registers) (definition : Definition) (result : Result (Unit {0}) Ending) (how : Went) →
+    kept.moved ≡ Some definition → new ≡ kept → how ≡ went_of result →
+    IsStep members (put_and_drop (change.Put definition) (new_ticket at (registers_of at kept)) (old_ticket at (registers_of at kept))) a x result b y →
+    IsMade members at step.Move a x kept how b y new
+moved-made members at a b x y kept new definition result how is same made done =
+    let r : plan.Registers = registers_of at kept in
+    subst (λ (k : Registers). IsMade members at step.Move a x kept how b y k) (sym same)
+    (subst (λ (w : Went). IsMade members at step.Move a x kept w b y kept) (sym made)
+    (act-made members a b x y (doing at step.Move) (put_and_drop (change.Put definition) (new_ticket at r) (old_ticket at r)) r result
+    (ap (λ (m : Option Definition). move m (old_ticket at r) (new_ticket at r) >> Give r) is) done))

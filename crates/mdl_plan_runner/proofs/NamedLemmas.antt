@@ -1,5 +1,5 @@
 -- Named keys, locked one after the other.
-use Rattle.std.proofs.Common.{◌≡◌, ℕ, Bool, true, false, List, [], ◌∷◌, ◌++◌, drop, suc, length, Option, Some, None, refl, sym, ap, ◌∙◌, subst, arith, if◌then◌else◌}
+use Rattle.std.proofs.Common.{◌≡◌, ◌+◌, ◌-◌, ◌<◌, ℕ, Bool, true, false, List, [], ◌∷◌, ◌++◌, drop, suc, length, Option, Some, None, refl, sym, ap, ◌∙◌, subst, arith, if◌then◌else◌}
 use mathlib.Core.Path.{fun_ext}
 use Rattle.std.specs.Prelude.{slice_get, nat_lt}
 use Rattle.std.proofs.Math.ListN.{drop_of_length-le}
@@ -69,6 +69,18 @@ more-so at kept key ticket = by kept.named where
       let longer : LockList = record locks { tickets = locks.tickets ++ ticket ∷ [] } in
       ap (λ (test : Bool). registers_of at (record kept { named = Listed (if test then longer else locks); granted = None })) left
   by (Table held) e = absurd (none-some e)
+
+-- one less is left then
+pub more-smaller : (table other : KeyName) (named : Named) (key : KeyName) (ticket : ℕ) → slice_get (keys_in table named) (length (tickets_in named)) ≡ Some key →
+    length (keys_in other (with_ticket_of_next ticket named)) - length (tickets_in (with_ticket_of_next ticket named)) < length (keys_in other named) - length (tickets_in named)
+more-smaller table other (Listed locks) key ticket e =
+    let within = slice_get_within locks.keys (length locks.tickets) key e in
+    let left : nat_lt (length locks.tickets) (length locks.keys) ≡ true = grind (arith, nat_tests) in
+    let longer : LockList = record locks { tickets = locks.tickets ++ ticket ∷ [] } in
+    let len : length (locks.tickets ++ ticket ∷ []) ≡ length locks.tickets + 1 = length-append locks.tickets (ticket ∷ []) in
+    subst (λ (test : Bool). length (if test then longer else locks).keys - length (if test then longer else locks).tickets < length locks.keys - length locks.tickets) (sym left)
+    (subst (λ (n : ℕ). length locks.keys - n < length locks.keys - length locks.tickets) (sym len) (omega (arith, within)))
+more-smaller table other (Table held) key ticket e = absurd (none-some e)
 
 module _ (at : Statement) (how : Manner) where
   abbrev locked : plan.Registers → Row plan.Registers

@@ -1,7 +1,9 @@
 -- SELECT: one table after the other.
-use Rattle.std.proofs.Common.{◌≡◌, ℕ, ◌+◌, List, [], ◌∷◌, ◌++◌, drop, suc, length, Option, Some, None, Ok, Err, refl, sym, ap, ◌∙◌, subst, arith}
+use Rattle.std.proofs.Common.{◌≡◌, ℕ, ◌+◌, ◌-◌, ◌<◌, List, [], ◌∷◌, ◌++◌, drop, suc, length, Option, Some, None, Result, Ok, Err, refl, sym, ap, ◌∙◌, subst, arith}
 use mathlib.Core.Path.{fun_ext}
-use Rattle.std.specs.Prelude.{find, slice_get}
+use Rattle.std.specs.Prelude.{IfOk, MatchResult, find, slice_get}
+use Rattle.std.proofs.lemmas.List.{length-append}
+use Rattle.std.proofs.lemmas.Option.{slice_get_within}
 use Rattle.std.proofs.Math.ListN.{drop_of_length-le}
 use Rattle.mdl_key.specs.declared.mode.Mode.TheVariants.{SR}
 use Rattle.mdl_key.specs.declared.mode.Duration.TheVariants as for
@@ -11,8 +13,7 @@ use Rattle.mdl_syntax.specs.declared.statement.Statement.{Statement}
 use Rattle.mdl_context.specs.declared.request.Mark.{Mark}
 use Rattle.mdl_context.specs.Wishes.{Wish}
 use Rattle.mdl_rows.specs.declared.ending.Ending.{Ending}
-use Rattle.mdl_rows.specs.declared.ending.Ending.TheVariants.{Answers}
-use Rattle.mdl_rows.specs.declared.error_number.ErrorNumber.TheVariants.{TableNotLocked}
+use Rattle.mdl_rows.specs.declared.ending.Ending.TheVariants.{Starves}
 use Rattle.mdl_rows.specs.declared.reply.Reply.{Reply}
 use Rattle.mdl_rows.specs.declared.reply.Reply.TheVariants as reply
 use Rattle.mdl_rows.specs.declared.reply.TableShown.{TableShown}
@@ -20,7 +21,7 @@ use Rattle.mdl_rows.specs.declared.state.Locked.{Locked}
 use Rattle.mdl_rows.specs.Endings.{closing}
 use Rattle.mdl_rows.specs.Playing.{play}
 use Rattle.mdl_rows.specs.Rows.{Row, Acquire, Give, ◌>>=◌}
-use Rattle.mdl_rows.specs.Statements.{among_locked, lock_held, show}
+use Rattle.mdl_rows.specs.Statements.{among_locked, lock_held, show, show_held}
 use Rattle.mdl_plans.specs.declared.step.Step.TheVariants as step
 use Rattle.mdl_plans.specs.Registers.{granting, replying, showing}
 use Rattle.mdl_plans.specs.Registers as plan
@@ -28,11 +29,10 @@ use Rattle.mdl_plans.specs.Seen.{seen}
 use Rattle.mdl_plans.specs.Steps.{doing, getting, or_granted, read_each, read_held, tables_of}
 use Rattle.mdl_plan_runner.specs.declared.got.LockResult.TheVariants as got
 use Rattle.mdl_plan_runner.specs.declared.got.Went.TheVariants as went
-use Rattle.mdl_plan_runner.specs.declared.registers.Answer.TheVariants as answer
 use Rattle.mdl_plan_runner.specs.declared.registers.Registers.{Registers}
 use Rattle.mdl_plan_runner.specs.Gets.{Comes, IsStep, at_rest}
 use Rattle.mdl_plan_runner.specs.Held.{registers_of}
-use Rattle.mdl_plan_runner.specs.Made.{IsGotOr, IsMade, IsShown, WaitsAlike}
+use Rattle.mdl_plan_runner.specs.Made.{IsGotOr, IsMade, IsShown, IsShownHeld, WaitsAlike}
 use Rattle.mdl_plan_runner.specs.Players.{PlayerView}
 use Rattle.mdl_plan_runner.proofs.CallLemmas.{comes-row}
 use Rattle.mdl_plan_runner.proofs.OrderLemmas.{from-element, slice-past}
@@ -49,6 +49,20 @@ pub shown-so : {S : Type 0} (members : Ghosts S) (table : KeyName) (ticket : ℕ
     new ≡ record kept { shown = more; granted = None } → IsStep members (show kept.shown table ticket) a x (Ok more) b y → IsShown members table ticket a x kept (Ok tt) b y new
 shown-so members table ticket a b x y kept new more same made = λ at rest.
     comes-then (made (λ shown. rest (showing shown (registers_of at kept)))) (comes-row _ _ (ap (λ (k : Registers). rest (registers_of at k)) (sym same)))
+
+-- a table that is found among the locked ones is shown under its lock
+held-same : (x : PlayerView) (table : KeyName) (locked : Locked) (shown : List TableShown) (rest : List TableShown → Row Reply) → find (λ (l : Locked). key_eq table l.key) x.state.locked ≡ Some locked → (mark : Mark) →
+    play (show shown table locked.ticket >>= rest) mark (at_rest x) ≡ play (show_held shown table >>= rest) mark (at_rest x)
+held-same x table locked shown rest found mark =
+    sym (ap (λ (f : Option Locked). play (((among_locked f >>= (λ (l : Locked). Give l.ticket)) >>= show shown table) >>= rest) mark (at_rest x)) found)
+
+pub held-so : {S : Type 0} (members : Ghosts S) (table : KeyName) (locked : Locked) (a b : S) (x y : PlayerView) (old new : Registers) (result : Result (Unit {0}) Ending) →
+    find (λ (l : Locked). key_eq table l.key) x.state.locked ≡ Some locked → IsShown members table locked.ticket a x old result b y new → IsShownHeld members table a x old result b y new
+held-so members table locked a b x y old new (Ok t) found made = λ at rest.
+    comes-as (play (show_held old.shown table >>= (λ more. rest (showing more (registers_of at old))))) (play (show old.shown table locked.ticket >>= (λ more. rest (showing more (registers_of at old)))))
+    (held-same x table locked old.shown (λ more. rest (showing more (registers_of at old))) found) (made at rest)
+held-so members table locked a b x y old new (Err ending) found made = λ rest.
+    comes-as (play (show_held old.shown table >>= rest)) (play (show old.shown table locked.ticket >>= rest)) (held-same x table locked old.shown rest found) (made rest)
 
 module _ (at : Statement) where
   abbrev read : plan.Registers → Row plan.Registers
@@ -127,49 +141,49 @@ module _ (at : Statement) where
       read-ends last ending so made = λ rest. comes-then (so rest) (comes-then (comes-row _ _ (asked rest)) (ends-next members b c y z kept.granted (Acquire (read_wish table) Give) SR shown ending made rest))
 
     -- all are shown
-    pub read-over : (b : S) (y : PlayerView) (kept new : Registers) → slice_get (tables_of at) (length kept.shown) ≡ None → new ≡ record kept { answer = answer.Shown; granted = None } → ReadSo kept b y →
+    pub read-over : (b : S) (y : PlayerView) (kept new : Registers) → slice_get (tables_of at) (length kept.shown) ≡ None → new ≡ record kept { shown = []; reply = reply.Columns kept.shown; granted = None } → ReadSo kept b y →
         IsMade members at step.ReadEach a x first went.On b y new
     read-over b y kept new e same so = λ rest.
         comes-then (so rest) (comes-row _ _ (ap (λ (tables : List KeyName). read_each tables (registers_of at kept) >>= rest) (drop_of_length-le (tables_of at) (slice-past (tables_of at) (length kept.shown) e))
         ∙ ap (λ (k : Registers). rest (registers_of at k)) (sym same)))
 
     module _ (b : S) (y : PlayerView) (kept : Registers) (table : KeyName) (e : slice_get (tables_of at) (length kept.shown) ≡ Some table) (so : HeldSo kept b y) where
-      abbrev showing_behind : List TableShown → Row plan.Registers
-      showing_behind more = read_held (drop (suc (length kept.shown)) (tables_of at)) (showing more (registers_of at kept))
+      abbrev held_behind : List TableShown → Row plan.Registers
+      held_behind more = read_held (drop (suc (length kept.shown)) (tables_of at)) (showing more (registers_of at kept))
 
-      abbrev found : Option Locked → Row plan.Registers
-      found locked = (among_locked locked >>= (λ (l : Locked). Give l.ticket)) >>= (λ ticket. show kept.shown table ticket >>= showing_behind)
+      asked-held : (rest : plan.Registers → Row Reply) → held (registers_of at kept) >>= rest ≡ show_held kept.shown table >>= (λ more. held_behind more >>= rest)
+      asked-held rest =
+          ap (λ (m : Row plan.Registers). m >>= rest) (next-held kept table e ∙ sym (bind-assoc (lock_held table) (show kept.shown table) held_behind))
+          ∙ bind-assoc (show_held kept.shown table) held_behind rest
 
-      -- it is looked for among the locked tables
-      sought : (locked : Option Locked) (rest : plan.Registers → Row Reply) → find (λ (l : Locked). key_eq table l.key) y.state.locked ≡ locked →
-          Comes members b y (play (held (registers_of at kept) >>= rest)) b y (play (found locked >>= rest))
-      sought locked rest is =
-          comes-then (comes-row _ _ (ap (λ (m : Row plan.Registers). m >>= rest) (next-held kept table e)))
-          (comes-as (play ((lock_held table >>= (λ ticket. show kept.shown table ticket >>= showing_behind)) >>= rest)) (play (found locked >>= rest))
-          (λ mark. sym (ap (λ (l : Option Locked). play (found l >>= rest) mark (at_rest y)) is)) (record { so = λ mark pause c run. run }))
-
-      -- it isn't among them
-      pub held-none : (last : Registers) → find (λ (l : Locked). key_eq table l.key) y.state.locked ≡ None → IsMade members at step.ReadHeld a x first (went.Ends (Answers (reply.Error TableNotLocked))) b y last
-      held-none last none = λ rest. comes-then (so rest) (comes-then (sought None rest none) (record { so = λ mark pause c run. run }))
-
-      -- it is, and it is shown
-      pub held-shown : (d : S) (w : PlayerView) (locked : Locked) (new : Registers) → find (λ (l : Locked). key_eq table l.key) y.state.locked ≡ Some locked →
-          IsShown members table locked.ticket b y kept (Ok tt) d w new → length new.shown ≡ length kept.shown + 1 → HeldSo new d w
-      held-shown d w locked new some shows len = λ rest.
-          comes-then (so rest) (comes-then (sought (Some locked) rest some)
-          (comes-then (comes-row _ _ (bind-assoc (show kept.shown table locked.ticket) showing_behind rest))
+      -- the next one is shown
+      pub held-shown : (d : S) (w : PlayerView) (new : Registers) → IsShownHeld members table b y kept (Ok tt) d w new → length new.shown ≡ length kept.shown + 1 → HeldSo new d w
+      held-shown d w new shows len = λ rest.
+          comes-then (so rest) (comes-then (comes-row _ _ (asked-held rest))
           (comes-then (shows at (λ r. read_held (drop (suc (length kept.shown)) (tables_of at)) r >>= rest))
-          (comes-row _ _ (ap (λ (tables : List KeyName). read_held tables (registers_of at new) >>= rest) (later new (length kept.shown) len))))))
+          (comes-row _ _ (ap (λ (tables : List KeyName). read_held tables (registers_of at new) >>= rest) (later new (length kept.shown) len)))))
 
-      pub held-missed : (d : S) (w : PlayerView) (locked : Locked) (new last : Registers) (ending : Ending) → find (λ (l : Locked). key_eq table l.key) y.state.locked ≡ Some locked →
-          IsShown members table locked.ticket b y kept (Err ending) d w new → IsMade members at step.ReadHeld a x first (went.Ends ending) d w last
-      held-missed d w locked new last ending some shows = λ rest.
-          comes-then (so rest) (comes-then (sought (Some locked) rest some)
-          (comes-then (comes-row _ _ (bind-assoc (show kept.shown table locked.ticket) showing_behind rest)) (shows (λ more. showing_behind more >>= rest))))
+      -- it isn't among them, or isn't there
+      pub held-missed : (d : S) (w : PlayerView) (new last : Registers) (ending : Ending) → IsShownHeld members table b y kept (Err ending) d w new → IsMade members at step.ReadHeld a x first (went.Ends ending) d w last
+      held-missed d w new last ending shows = λ rest.
+          comes-then (so rest) (comes-then (comes-row _ _ (asked-held rest)) (shows (λ more. held_behind more >>= rest)))
 
     -- all are shown
-    pub held-over : (b : S) (y : PlayerView) (kept new : Registers) → slice_get (tables_of at) (length kept.shown) ≡ None → new ≡ record kept { answer = answer.Shown; granted = None } → HeldSo kept b y →
+    pub held-over : (b : S) (y : PlayerView) (kept new : Registers) → slice_get (tables_of at) (length kept.shown) ≡ None → new ≡ record kept { shown = []; reply = reply.Columns kept.shown; granted = None } → HeldSo kept b y →
         IsMade members at step.ReadHeld a x first went.On b y new
     held-over b y kept new e same so = λ rest.
         comes-then (so rest) (comes-row _ _ (ap (λ (tables : List KeyName). read_held tables (registers_of at kept) >>= rest) (drop_of_length-le (tables_of at) (slice-past (tables_of at) (length kept.shown) e))
         ∙ ap (λ (k : Registers). rest (registers_of at k)) (sym same)))
+
+-- one more table is shown
+pub more-length : (shown : List TableShown) (table : TableShown) (result : Result (List TableShown) Ending) → MatchResult result (λ more. more ≡ shown ++ table ∷ []) (λ ending. ending ≡ Starves) →
+    IfOk result (λ more. length more ≡ length shown + 1)
+more-length shown table (Ok more) same = ap (λ (l : List TableShown). length l) same ∙ length-append shown (table ∷ [])
+more-length shown table (Err ending) same = tt
+
+-- one less is left then
+pub grown-smaller : (tables : List KeyName) (shown more : List TableShown) (table : KeyName) → slice_get tables (length shown) ≡ Some table → length more ≡ length shown + 1 →
+    length tables - length more < length tables - length shown
+grown-smaller tables shown more table e len =
+    let within = slice_get_within tables (length shown) table e in
+    subst (λ (n : ℕ). length tables - n < length tables - length shown) (sym len) (omega (arith, within))

@@ -98,3 +98,13 @@ module _ {S : Type 0} (members : Ghosts S) where
       (subst (λ (p : Pause). Runs (cached members) (a, player.cache) (program_seen (play (rest_at some.statement some.plan some.at (registers_of some.statement some.registers) ticket) some.mark (at_rest player))) p (b, after.cache))
       (wait-seen key mode (at_rest after) alike.left (rest_at some.statement some.plan n (registers_of some.statement kept)) some.mark alike.same)
       (seen-runs (cached members) _ _ (a, player.cache) (b, after.cache) (alike.waits.so some.mark))))
+
+  -- a waiting statement is ended
+  pub ends-work : {E : Type 0} (runner : RunnerView) (player after : PlayerView) (work rest : Option WorkView) (some : WorkView) (ending : Ending) (progress : Result Progress E) (a c : S) →
+      runner_of player work ≡ runner → work ≡ Some some → rest ≡ None →
+      Runs (cached members) (a, player.cache) (closing ending some.mark (at_rest player)) (ran progress (at_rest after)) (c, after.cache) →
+      IfSome runner.work (λ one. Runs (cached members) (a, runner.cache) (closing ending one.mark (session_of runner)) (ran progress (session_of (runner_of after rest))) (c, after.cache))
+  ends-work runner player after work rest some ending progress a c same is none run =
+      subst (λ (r : RunnerView). IfSome r.work (λ one. Runs (cached members) (a, r.cache) (closing ending one.mark (session_of r)) (ran progress (session_of (runner_of after rest))) (c, after.cache))) same
+      (subst (λ (w : Option WorkView). IfSome w (λ one. Runs (cached members) (a, player.cache) (closing ending one.mark (session_of (runner_of player w))) (ran progress (session_of (runner_of after rest))) (c, after.cache))) (sym is)
+      (subst (λ (w : Option WorkView). Runs (cached members) (a, player.cache) (closing ending some.mark (session_of (runner_of player (Some some)))) (ran progress (session_of (runner_of after w))) (c, after.cache)) (sym none) run))

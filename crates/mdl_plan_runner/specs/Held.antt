@@ -5,16 +5,13 @@ use Rattle.mdl_defs.specs.declared.change.Change.{Change}
 use Rattle.mdl_defs.specs.declared.change.Change.TheVariants as change
 use Rattle.mdl_defs.specs.declared.definition.Definition.{Definition}
 use Rattle.mdl_syntax.specs.declared.statement.Statement.{Statement}
-use Rattle.mdl_rows.specs.declared.reply.Reply.{Reply}
-use Rattle.mdl_rows.specs.declared.reply.Reply.TheVariants as reply
-use Rattle.mdl_rows.specs.declared.reply.TableShown.{TableShown}
+use Rattle.mdl_syntax.specs.declared.table_locks.TableLock.{TableLock}
+use Rattle.mdl_syntax.specs.Forms.{tables_of}
 use Rattle.mdl_plans.specs.Registers as plan
 use Rattle.mdl_plans.specs.Steps.{table_of}
 use Rattle.mdl_plan_runner.specs.declared.named.Named.{Named}
 use Rattle.mdl_plan_runner.specs.declared.named.Named.TheVariants.{Listed, Table}
 use Rattle.mdl_plan_runner.specs.LockLists.{with_next_ticket}
-use Rattle.mdl_plan_runner.specs.declared.registers.Answer.{Answer}
-use Rattle.mdl_plan_runner.specs.declared.registers.Answer.TheVariants as answer
 use Rattle.mdl_plan_runner.specs.declared.registers.Registers.{Registers}
 
 -- the keys that were named, in a statement of this table
@@ -37,12 +34,9 @@ abbrev pub definition_put : Change → Option Definition
 definition_put (change.Put definition) = Some definition
 definition_put _ = None
 
--- a reply, with these tables shown
-abbrev pub reply_of : Answer → List TableShown → Reply
-reply_of answer.Ok shown = reply.Ok
-reply_of (answer.Number one) shown = reply.Number one
-reply_of answer.Null shown = reply.Null
-reply_of answer.Shown shown = reply.Columns shown
+-- the tables that LOCK TABLES names
+abbrev pub mentioned : List TableLock → List KeyName
+mentioned = tables_of
 
 -- what a statement keeps
 abbrev pub registers_of : Statement → Registers → plan.Registers
@@ -54,6 +48,6 @@ registers_of at kept =
       scopes = tickets_in kept.scopes;
       shown = kept.shown;
       moved = kept.moved;
-      reply = reply_of kept.answer kept.shown;
+      reply = kept.reply;
       granted = kept.granted;
     }

@@ -16,7 +16,7 @@ use Rattle.mdl_rows.specs.Endings.{Pause, closing}
 use Rattle.mdl_rows.specs.Playing.{play}
 use Rattle.mdl_rows.specs.Rows.{Row, Acquire, Give, ◌>>=◌, upgrade}
 use Rattle.mdl_rows.specs.Sessions.{Left, Session}
-use Rattle.mdl_rows.specs.Statements.{show}
+use Rattle.mdl_rows.specs.Statements.{show, show_held}
 use Rattle.mdl_plans.specs.declared.step.Step.{Step}
 use Rattle.mdl_plans.specs.Registers.{granting}
 use Rattle.mdl_plans.specs.Registers as plan
@@ -115,10 +115,18 @@ said (Ok (Some one)) = Ok (reply.Number one)
 said (Ok None) = Ok reply.Null
 said (Err ending) = Err ending
 
--- one more table was shown
-abbrev pub IsShown : {S : Type 0} → Ghosts S → KeyName → ℕ → S → PlayerView → Registers → Result (Unit {0}) Ending → S → PlayerView → Registers → Type 0
-IsShown members table ticket a before old (Ok _) b after new =
+-- one more table was shown by this row, which is given those shown before, or the statement is to end
+abbrev pub IsShownBy : {S : Type 0} → Ghosts S → (List TableShown → Row (List TableShown)) → S → PlayerView → Registers → Result (Unit {0}) Ending → S → PlayerView → Registers → Type 0
+IsShownBy members row a before old (Ok _) b after new =
     (at : Statement) (rest : plan.Registers → Row Reply) →
-    Comes members a before (play (show old.shown table ticket >>= (λ more. rest (plan.showing more (registers_of at old))))) b after (play (rest (registers_of at new)))
-IsShown members table ticket a before old (Err ending) b after new =
-    (rest : List TableShown → Row Reply) → Comes members a before (play (show old.shown table ticket >>= rest)) b after (closing ending)
+    Comes members a before (play (row old.shown >>= (λ more. rest (plan.showing more (registers_of at old))))) b after (play (rest (registers_of at new)))
+IsShownBy members row a before old (Err ending) b after new =
+    (rest : List TableShown → Row Reply) → Comes members a before (play (row old.shown >>= rest)) b after (closing ending)
+
+-- the same, of a table under its lock
+abbrev pub IsShown : {S : Type 0} → Ghosts S → KeyName → ℕ → S → PlayerView → Registers → Result (Unit {0}) Ending → S → PlayerView → Registers → Type 0
+IsShown members table ticket = IsShownBy members (λ shown. show shown table ticket)
+
+-- and of a table among the locked ones
+abbrev pub IsShownHeld : {S : Type 0} → Ghosts S → KeyName → S → PlayerView → Registers → Result (Unit {0}) Ending → S → PlayerView → Registers → Type 0
+IsShownHeld members table = IsShownBy members (λ shown. show_held shown table)

@@ -5,8 +5,9 @@ ghost use Rattle.mdl_rows.specs.KeyOrder.{inserted_in_order, in_key_order};
 ghost use Rattle.mdl_rows.specs.Statements.{both_names, both_scopes, is_write, may_write, schema_of, scopes_around, written_tables};
 ghost use Rattle.mdl_plans.specs.declared.step.Keys.TheVariants.{Scopes};
 ghost use Rattle.mdl_plans.specs.Steps.{keys_said, tables_of};
+ghost use Rattle.mdl_plan_runner.specs.Held.{mentioned};
 
-use crate::names::{locks_of, name_of, new_name_of, table_at, table_count, table_of};
+use crate::names::{locks_of, name_of, new_name_of, table_of};
 use mdl_key::Key;
 use mdl_plans::Keys;
 use mdl_syntax::{LockType, Statement, TableLock};
@@ -98,11 +99,32 @@ fn place(keys: &mut Vec<Key>, key: Key) -> Result<(), AllocError>
 fn tables_of(alloc: Global, statement: &Statement) -> Result<Vec<Key>, AllocError>
     ensures { IfOk result (λ keys. keys.items ≡ in_key_order (tables_of statement.now)) }
 {
+    match statement {
+        Statement::Select(tables) => in_key_order(alloc, tables.as_slice()),
+        Statement::DropTables(tables) => in_key_order(alloc, tables.as_slice()),
+        Statement::LockTables(locks) => locked_in_order(alloc, locks.as_slice()),
+        _ => Ok(Vec::new(alloc)),
+    }
+}
+
+// Tables, in key order.
+fn in_key_order(alloc: Global, tables: &[Key]) -> Result<Vec<Key>, AllocError>
+    ensures { IfOk result (λ keys. keys.items ≡ in_key_order tables.now) }
+{
     let mut keys = Vec::new(alloc);
-    for at in 0..table_count(statement) {
-        if let Some(table) = table_at(statement, at) {
-            place(&mut keys, table.clone()?)?;
-        }
+    for table in tables {
+        place(&mut keys, table.clone()?)?;
+    }
+    Ok(keys)
+}
+
+// The tables that LOCK TABLES names, in key order.
+fn locked_in_order(alloc: Global, tables: &[TableLock]) -> Result<Vec<Key>, AllocError>
+    ensures { IfOk result (λ keys. keys.items ≡ in_key_order (mentioned tables.now)) }
+{
+    let mut keys = Vec::new(alloc);
+    for lock in tables {
+        place(&mut keys, lock.table.clone()?)?;
     }
     Ok(keys)
 }
@@ -111,13 +133,42 @@ fn tables_of(alloc: Global, statement: &Statement) -> Result<Vec<Key>, AllocErro
 fn scopes_of(alloc: Global, statement: &Statement) -> Result<Vec<Key>, AllocError>
     ensures { IfOk result (λ keys. keys.items ≡ keys_said statement.now Scopes) }
 {
-    let mut keys = Vec::new(alloc);
-    for at in 0..table_count(statement) {
-        if let Some(table) = table_at(statement, at) {
-            place(&mut keys, schema_of(alloc, table)?)?;
-        }
-    }
+    let mut keys = schemas_of(alloc, statement)?;
     keys.insert(0, Key::global(alloc))?;
+    Ok(keys)
+}
+
+// The schemas of the statement's tables, in key order.
+fn schemas_of(alloc: Global, statement: &Statement) -> Result<Vec<Key>, AllocError>
+    ensures { IfOk result (λ keys. keys.items ≡ in_key_order (map schema_of (tables_of statement.now))) }
+{
+    match statement {
+        Statement::Select(tables) => schemas_in_order(alloc, tables.as_slice()),
+        Statement::DropTables(tables) => schemas_in_order(alloc, tables.as_slice()),
+        Statement::LockTables(locks) => schemas_locked(alloc, locks.as_slice()),
+        _ => Ok(Vec::new(alloc)),
+    }
+}
+
+// The schemas of tables, in key order.
+fn schemas_in_order(alloc: Global, tables: &[Key]) -> Result<Vec<Key>, AllocError>
+    ensures { IfOk result (λ keys. keys.items ≡ in_key_order (map schema_of tables.now)) }
+{
+    let mut keys = Vec::new(alloc);
+    for table in tables {
+        place(&mut keys, schema_of(alloc, table)?)?;
+    }
+    Ok(keys)
+}
+
+// The schemas of the tables that LOCK TABLES names, in key order.
+fn schemas_locked(alloc: Global, tables: &[TableLock]) -> Result<Vec<Key>, AllocError>
+    ensures { IfOk result (λ keys. keys.items ≡ in_key_order (map schema_of (mentioned tables.now))) }
+{
+    let mut keys = Vec::new(alloc);
+    for lock in tables {
+        place(&mut keys, schema_of(alloc, &lock.table)?)?;
+    }
     Ok(keys)
 }
 

@@ -14,7 +14,8 @@ use crate::got::{LockResult, Went};
 use crate::key_lists::may_write;
 use crate::names::{locks_of, table_of};
 use crate::player::Player;
-use crate::registers::{Answer, Registers};
+use crate::Reply;
+use crate::registers::Registers;
 use mdl_context::Request;
 use mdl_key::{Duration, Key, Mode, Namespace};
 use mdl_plans::Manner;
@@ -191,7 +192,7 @@ impl<S: LockSpace> Player<S> {
             .first_key(table_of(statement, &global), &global);
         let granted = registers.granted.take();
         match self.get_user_lock(space, granted, lock) {
-            LockResult::Had(_) => registers.end_with(Answer::Number(true)),
+            LockResult::Had(_) => registers.end_with(Reply::Number(true)),
             LockResult::Waits(key) => Went::Waits(key, Mode::X),
             LockResult::Ends(ending) => Went::Ends(ending),
         }

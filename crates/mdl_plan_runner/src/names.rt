@@ -1,5 +1,5 @@
 //! What a statement names.
-ghost use Rattle.std.specs.Prelude.{◌≡◌, [], length, slice_get};
+ghost use Rattle.std.specs.Prelude.{◌≡◌, [], slice_get};
 ghost use Rattle.std.specs.Option.{option_map};
 ghost use Rattle.mdl_key.specs.Keys.{global_key, schema_key};
 ghost use Rattle.mdl_defs.specs.declared.change.Change.TheVariants as change;
@@ -56,18 +56,6 @@ pub(crate) fn table_at(statement: &Statement, at: usize) -> Option<&Key>
             None => None,
         },
         _ => None,
-    }
-}
-
-/// How many tables the statement mentions.
-pub(crate) fn table_count(statement: &Statement) -> usize
-    ensures { result ≡ length (tables_of statement.now) }
-{
-    match statement {
-        Statement::Select(tables) => tables.as_slice().len(),
-        Statement::DropTables(tables) => tables.as_slice().len(),
-        Statement::LockTables(locks) => locks.as_slice().len(),
-        _ => 0,
     }
 }
 

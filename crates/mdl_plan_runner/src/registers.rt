@@ -2,9 +2,10 @@
 ghost use Rattle.std.specs.Prelude.{◌≡◌, [], None, OnOk};
 ghost use Rattle.mdl_syntax.specs.declared.statement.Statement.{Statement};
 ghost use Rattle.mdl_plans.specs.Registers.{fresh};
+ghost use Rattle.mdl_rows.specs.declared.reply.Reply.TheVariants.{Columns};
 ghost use Rattle.mdl_plan_runner.specs.declared.got.Went.TheVariants.{On};
 ghost use Rattle.mdl_plan_runner.specs.declared.named.Named.TheVariants.{Listed, Table};
-ghost use Rattle.mdl_plan_runner.specs.Held.{registers_of, reply_of};
+ghost use Rattle.mdl_plan_runner.specs.Held.{registers_of};
 
 use crate::got::Went;
 use crate::lock_list::LockList;
@@ -28,22 +29,9 @@ pub struct Registers {
     // The definition that is moved.
     pub(crate) moved: Option<Definition>,
     // The reply, if no step is left.
-    pub(crate) answer: Answer,
+    pub(crate) reply: Reply,
     // The ticket of a lock for which the statement waited, until the step that waited takes it.
     pub(crate) granted: Option<TicketId>,
-}
-
-/// The reply of a statement that is done.
-#[derive(Clone, Copy)]
-pub enum Answer {
-    /// Nothing to show.
-    Ok,
-    /// A truth value.
-    Number(bool),
-    /// NULL.
-    Null,
-    /// The tables shown.
-    Shown,
 }
 
 impl Registers {
@@ -56,7 +44,7 @@ impl Registers {
             scopes: Named::Listed(LockList::empty(alloc)),
             shown: TablesShown::new(alloc),
             moved: None,
-            answer: Answer::Ok,
+            reply: Reply::Ok,
             granted: None,
         }
     }
@@ -86,24 +74,28 @@ impl Registers {
     }
 
     /// Notes the reply, and that the step which waited is done.
-    pub(crate) fn end_with(&mut self, answer: Answer) -> Went
+    pub(crate) fn end_with(&mut self, reply: Reply) -> Went
         ensures on { result ≡ On }
-        ensures noted { self.new ≡ record self.old { answer = answer; granted = None } }
+        ensures noted { self.new ≡ record self.old { reply = reply; granted = None } }
     {
-        self.answer = answer;
+        drop(replace(&mut self.reply, reply));
         self.granted = None;
         Went::On
     }
 
-    /// The reply, which takes the tables shown.
-    pub(crate) fn reply(&mut self, alloc: Global) -> Reply
-        ensures { result ≡ reply_of self.old.answer self.old.shown }
+    /// Makes the tables shown the reply.
+    pub(crate) fn end_shown(&mut self, alloc: Global) -> Went
+        ensures on { result ≡ On }
+        ensures noted { self.new ≡ record self.old { shown = []; reply = Columns self.old.shown; granted = None } }
     {
-        match self.answer {
-            Answer::Ok => Reply::Ok,
-            Answer::Number(one) => Reply::Number(one),
-            Answer::Null => Reply::Null,
-            Answer::Shown => Reply::Columns(replace(&mut self.shown, TablesShown::new(alloc))),
-        }
+        let shown = replace(&mut self.shown, TablesShown::new(alloc));
+        self.end_with(Reply::Columns(shown))
+    }
+
+    /// Takes the reply.
+    pub(crate) fn reply(&mut self) -> Reply
+        ensures { result ≡ self.old.reply }
+    {
+        replace(&mut self.reply, Reply::Ok)
     }
 }

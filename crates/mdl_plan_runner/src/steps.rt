@@ -38,7 +38,7 @@ impl<S: LockSpace> Player<S> {
             Step::HeldForWrite => checked(self.held_for_write(space, statement)),
             Step::Commit => self.commit(space, registers),
             Step::Rollback => done(self.rollback(space)),
-            Step::Open => done(self.open(space)),
+            Step::Open => done(self.begin(space)),
             Step::Save => self.save(space, registers, statement),
             Step::GoBack => self.go_back(space, registers, statement),
             Step::Wrote => self.wrote(space, registers),
@@ -97,6 +97,6 @@ impl<S: LockSpace> Player<S> {
                 Went::Ends(ending) => return Played::Ends(ending),
             }
         }
-        Played::Ends(Ending::Answers(registers.reply(self.alloc)))
+        Played::Ends(Ending::Answers(registers.reply()))
     }
 }

@@ -15,8 +15,8 @@ use crate::got::{LockResult, Went};
 use crate::names::name_of;
 use crate::player::Player;
 use crate::reading::failing;
-use crate::registers::{Answer, Registers};
-use crate::ErrorNumber;
+use crate::registers::Registers;
+use crate::{ErrorNumber, Reply};
 use mdl_context::Request;
 use mdl_key::{Duration, Key, Mode};
 use mdl_rows::Ending;
@@ -61,7 +61,7 @@ impl<S: LockSpace> Player<S> {
     }
 
     /// Opens a transaction, with no locked tables.
-    pub(crate) fn open(&mut self, space: &mut S)
+    pub(crate) fn begin(&mut self, space: &mut S)
         requires ready { IsReady S.LockSpace space.old self.old }
         ensures run { IsStep S.LockSpace (set with_open_transaction) space.old self.old (Ok tt) space.new self.new }
         ensures goes_on { GoesOn S.LockSpace space.old self.old space.new self.new }
@@ -139,7 +139,7 @@ impl<S: LockSpace> Player<S> {
         ensures idle { IdleUnlessWent result self.new }
     {
         match self.save_mark(space, name_of(statement)) {
-            Ok(()) => registers.end_with(Answer::Ok),
+            Ok(()) => registers.end_with(Reply::Ok),
             Err(ending) => Went::Ends(ending),
         }
     }
@@ -174,7 +174,7 @@ impl<S: LockSpace> Player<S> {
         ensures idle { IdleUnlessWent result self.new }
     {
         match self.rollback_to(space, name_of(statement)) {
-            Ok(()) => registers.end_with(Answer::Ok),
+            Ok(()) => registers.end_with(Reply::Ok),
             Err(ending) => Went::Ends(ending),
         }
     }

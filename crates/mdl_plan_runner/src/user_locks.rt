@@ -10,7 +10,8 @@ ghost use Rattle.mdl_plan_runner.specs.Made.{IdleUnlessWent, IsMade, said};
 use crate::got::Went;
 use crate::names::table_of;
 use crate::player::Player;
-use crate::registers::{Answer, Registers};
+use crate::Reply;
+use crate::registers::Registers;
 use mdl_context::Request;
 use mdl_key::{Duration, Key, Mode};
 use mdl_rows::Ending;
@@ -34,8 +35,8 @@ impl<S: LockSpace> Player<S> {
         let global = Key::global(self.alloc);
         let lock = registers.named.first_key(table_of(statement, &global), &global);
         match self.release_last(space, lock) {
-            Ok(Some(held)) => registers.end_with(Answer::Number(held)),
-            Ok(None) => registers.end_with(Answer::Null),
+            Ok(Some(held)) => registers.end_with(Reply::Number(held)),
+            Ok(None) => registers.end_with(Reply::Null),
             Err(ending) => Went::Ends(ending),
         }
     }

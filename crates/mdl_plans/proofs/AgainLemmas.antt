@@ -2,7 +2,7 @@
 use Rattle.std.proofs.Common.{◌≡◌, ◌∙◌, ℕ, ◌+◌, Bool, true, false, not, List, [], ◌∷◌, ◌++◌, length, drop, map, Option, Some, None, refl, sym, ap, subst, if◌then◌else◌, length-append}
 use Rattle.std.proofs.lemmas.List.{drop-drop}
 use Rattle.std.specs.Prelude.{find, is_some}
-use Rattle.mdl_key.specs.Keys.{KeyName, key_eq, user_lock_key}
+use Rattle.mdl_key.specs.Keys.{KeyName, key_eq}
 use Rattle.mdl_defs.specs.declared.change.Change.{Change}
 use Rattle.mdl_defs.specs.declared.def_error.DefError.{DefError}
 use Rattle.mdl_defs.specs.declared.definition.Definition.{Definition}

@@ -132,9 +132,9 @@ lock_each request (key ∷ keys) r = do
   ticket ← getting (request key) r
   lock_each request keys (with_ticket ticket r)
 
--- locks tables and shows them, one after the other
+-- locks tables and shows them, one after the other. The reply takes them
 abbrev pub read_each : List KeyName → Registers → Row Registers
-read_each [] r = Give (replying (reply.Columns r.shown) r)
+read_each [] r = Give (replying (reply.Columns r.shown) (showing [] r))
 read_each (table ∷ tables) r = do
   ticket ← getting (record { key = table; mode = SR; duration = for.Transaction }) r
   more ← show r.shown table ticket
@@ -142,7 +142,7 @@ read_each (table ∷ tables) r = do
 
 -- shows locked tables, one after the other
 abbrev pub read_held : List KeyName → Registers → Row Registers
-read_held [] r = Give (replying (reply.Columns r.shown) r)
+read_held [] r = Give (replying (reply.Columns r.shown) (showing [] r))
 read_held (table ∷ tables) r = do
   ticket ← lock_held table
   more ← show r.shown table ticket

@@ -83,7 +83,7 @@ pub enum Step {
     Name(Keys),
     /// The keys named last are locked one after the other, until the transaction ends, but GLOBAL until the statement ends.
     LockNamed(Manner),
-    /// The keys named last are kept as the statement's scopes, with their tickets: for checks of its schema, and for `KeepLocked`.
+    /// The keys named last become the statement's scopes, with their tickets: for checks of its schema, and for `KeepLocked`. No key is named then.
     KeepScopes,
     /// The ticket of the statement's table is upgraded. The table is the key named last.
     Raise(Mode),
@@ -93,7 +93,7 @@ pub enum Step {
     LockWrites,
     /// COMMIT in S, until the session releases it: the second half.
     LockCommits,
-    /// The user-level lock in X, until the session releases it. The reply is 1.
+    /// The key named last, a user-level lock, in X, until the session releases it. The reply is 1.
     LockUser,
 
     // ---- checks under locks
@@ -142,6 +142,6 @@ pub enum Step {
     UnlockReads,
     /// The wait of another session is killed, if it waits.
     Kill,
-    /// The user-level lock is released. The reply is 1. If the session doesn't hold it: 0 if another session does, otherwise NULL.
+    /// The key named last, a user-level lock, is released. The reply is 1. If the session doesn't hold it: 0 if another session does, otherwise NULL.
     GiveBack,
 }

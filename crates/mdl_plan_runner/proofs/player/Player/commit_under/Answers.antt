@@ -16,7 +16,6 @@ use Rattle.mdl_plans.specs.Registers as plan
 use Rattle.mdl_plans.specs.Steps.{commit_under, doing, first_key, table_of, table_ticket}
 use Rattle.mdl_plans.specs.declared.step.Step.TheVariants as step
 use Rattle.mdl_plan_runner.specs.declared.named.Named.TheVariants.{Table}
-use Rattle.mdl_plan_runner.specs.declared.registers.Answer.TheVariants as answer
 use Rattle.mdl_plan_runner.specs.declared.registers.Registers.{Registers}
 use Rattle.mdl_plan_runner.specs.Gets.{Comes}
 use Rattle.mdl_plan_runner.specs.Held.{registers_of}
@@ -29,7 +28,7 @@ use Rattle.mdl_plan_runner.proofs.player.Player.commit_under.Goals as goal
 
 pub returns-in-Had-clause-run : goal.returns-in-Had-clause-run
 returns-in-Had-clause-run g c = λ at. 
-    made-had g.S.LockSpace at c.args.registers.now (commit_under) (λ r. Acquire (record { key = commit_key; mode = IX; duration = for.Explicit }) Give) (λ r ticket. end_under ticket >> Give (taken r)) (λ r. refl) (λ r ticket. refl) IX c.args.space.now c.get_or_take.new.space c.args.self.now c.get_or_take.new.self _ _ _ c.in-Had.lock (rw c.in-Had.is at (got-key g.S.LockSpace c.args.registers.now.granted IX for.Explicit c.args.space.now c.get_or_take.new.space c.args.self.now c.get_or_take.new.self c.get_or_take.result _ commit_key c.commit-commit.ensures c.get_or_take.ensures.run))
+    made-had g.S.LockSpace at c.args.registers.now (commit_under) (λ r. Acquire (record { key = commit_key; mode = IX; duration = for.Explicit }) Give) (λ r ticket. end_under ticket >> Give (taken r)) (λ r. refl) (λ r ticket. refl) IX c.args.space.now c.get_or_take.new.space c.args.self.now c.get_or_take.new.self c.end_under.new.space c.end_under.new.self (registers_of at c.get_or_take.new.registers) c.in-Had.lock (rw c.in-Had.is at (got-key g.S.LockSpace c.args.registers.now.granted IX for.Explicit c.args.space.now c.get_or_take.new.space c.args.self.now c.get_or_take.new.self c.get_or_take.result _ commit_key c.commit-commit.ensures c.get_or_take.ensures.run))
     (λ rest. comes-then (comes-row _ _ (bind-assoc (end_under c.in-Had.lock) (λ _. Give (taken (registers_of at c.args.registers.now))) rest))
     (comes-then (c.end_under.ensures.run (λ _. rest (taken (registers_of at c.args.registers.now)))) (on-kept at _ (record c.args.registers.now { granted = None }) rest c.get_or_take.ensures.taken)))
 
@@ -39,4 +38,4 @@ returns-in-Waits-clause-run g c = λ at.
 
 pub returns-clause-run : goal.returns-clause-run
 returns-clause-run g c = λ at. 
-    made-ends g.S.LockSpace at c.args.registers.now (commit_under) (λ r. Acquire (record { key = commit_key; mode = IX; duration = for.Explicit }) Give) (λ r ticket. end_under ticket >> Give (taken r)) (λ r. refl) (λ r ticket. refl) IX c.args.space.now c.get_or_take.new.space c.args.self.now c.get_or_take.new.self _ c.in-Ends.ending (rw c.in-Ends.is at (got-key g.S.LockSpace c.args.registers.now.granted IX for.Explicit c.args.space.now c.get_or_take.new.space c.args.self.now c.get_or_take.new.self c.get_or_take.result _ commit_key c.commit-commit.ensures c.get_or_take.ensures.run))
+    made-ends g.S.LockSpace at c.args.registers.now (commit_under) (λ r. Acquire (record { key = commit_key; mode = IX; duration = for.Explicit }) Give) (λ r ticket. end_under ticket >> Give (taken r)) (λ r. refl) (λ r ticket. refl) IX c.args.space.now c.get_or_take.new.space c.args.self.now c.get_or_take.new.self (registers_of at c.args.registers.now) c.in-Ends.ending (rw c.in-Ends.is at (got-key g.S.LockSpace c.args.registers.now.granted IX for.Explicit c.args.space.now c.get_or_take.new.space c.args.self.now c.get_or_take.new.self c.get_or_take.result _ commit_key c.commit-commit.ensures c.get_or_take.ensures.run))

@@ -16,7 +16,6 @@ use Rattle.mdl_plans.specs.Registers as plan
 use Rattle.mdl_plans.specs.Steps.{commit_under, doing, first_key, table_of, table_ticket}
 use Rattle.mdl_plans.specs.declared.step.Step.TheVariants as step
 use Rattle.mdl_plan_runner.specs.declared.named.Named.TheVariants.{Table}
-use Rattle.mdl_plan_runner.specs.declared.registers.Answer.TheVariants as answer
 use Rattle.mdl_plan_runner.specs.declared.registers.Registers.{Registers}
 use Rattle.mdl_plan_runner.specs.Gets.{Comes}
 use Rattle.mdl_plan_runner.specs.Held.{registers_of}
@@ -30,7 +29,7 @@ use Rattle.mdl_plan_runner.proofs.player.Player.lock_writes.Goals as goal
 pub returns-in-Had-clause-run : goal.returns-in-Had-clause-run
 returns-in-Had-clause-run g c = λ at. 
     let after : ExplicitLocks → PlayerView = λ explicit. player_of c.self-2.inside.cache explicit c.self-2.inside.context c.self-2.inside.is_open c.self-2.inside.has_written c.self-2.inside.savepoints in
-    made-had g.S.LockSpace at c.args.registers.now (doing at step.LockWrites) (λ r. Acquire (record { key = global_key; mode = S; duration = for.Explicit }) Give) (λ r ticket. set (with_writes_locked ticket) >> Give (taken r)) (λ r. refl) (λ r ticket. refl) S c.args.space.now c.get_or_take.new.space c.args.self.now c.get_or_take.new.self _ _ _ c.in-Had.ticket (rw c.in-Had.is at (got-key g.S.LockSpace c.args.registers.now.granted S for.Explicit c.args.space.now c.get_or_take.new.space c.args.self.now c.get_or_take.new.self c.get_or_take.result _ global_key c.global-global.ensures c.get_or_take.ensures.run))
+    made-had g.S.LockSpace at c.args.registers.now (doing at step.LockWrites) (λ r. Acquire (record { key = global_key; mode = S; duration = for.Explicit }) Give) (λ r ticket. set (with_writes_locked ticket) >> Give (taken r)) (λ r. refl) (λ r ticket. refl) S c.args.space.now c.get_or_take.new.space c.args.self.now c.get_or_take.new.self c.get_or_take.new.space (after c.lock_writes.new.self) (registers_of at c.get_or_take.new.registers) c.in-Had.ticket (rw c.in-Had.is at (got-key g.S.LockSpace c.args.registers.now.granted S for.Explicit c.args.space.now c.get_or_take.new.space c.args.self.now c.get_or_take.new.self c.get_or_take.result _ global_key c.global-global.ensures c.get_or_take.ensures.run))
     (λ rest. comes-then
     (subst (λ (p : PlayerView). Comes g.S.LockSpace c.get_or_take.new.space p (play (set (with_writes_locked c.in-Had.ticket) >> rest (taken (registers_of at c.args.registers.now)))) c.get_or_take.new.space (after c.lock_writes.new.self) (play (rest (taken (registers_of at c.args.registers.now))))) c.self-2.view_is
     (subst (λ (e : ExplicitLocks). Comes g.S.LockSpace c.get_or_take.new.space (after c.self-2.inside.explicit) (play (set (with_writes_locked c.in-Had.ticket) >> rest (taken (registers_of at c.args.registers.now)))) c.get_or_take.new.space (after e) (play (rest (taken (registers_of at c.args.registers.now))))) (sym c.lock_writes.ensures)
@@ -43,4 +42,4 @@ returns-in-Waits-clause-run g c = λ at.
 
 pub returns-clause-run : goal.returns-clause-run
 returns-clause-run g c = λ at. 
-    made-ends g.S.LockSpace at c.args.registers.now (doing at step.LockWrites) (λ r. Acquire (record { key = global_key; mode = S; duration = for.Explicit }) Give) (λ r ticket. set (with_writes_locked ticket) >> Give (taken r)) (λ r. refl) (λ r ticket. refl) S c.args.space.now c.get_or_take.new.space c.args.self.now c.get_or_take.new.self _ c.in-Ends.ending (rw c.in-Ends.is at (got-key g.S.LockSpace c.args.registers.now.granted S for.Explicit c.args.space.now c.get_or_take.new.space c.args.self.now c.get_or_take.new.self c.get_or_take.result _ global_key c.global-global.ensures c.get_or_take.ensures.run))
+    made-ends g.S.LockSpace at c.args.registers.now (doing at step.LockWrites) (λ r. Acquire (record { key = global_key; mode = S; duration = for.Explicit }) Give) (λ r ticket. set (with_writes_locked ticket) >> Give (taken r)) (λ r. refl) (λ r ticket. refl) S c.args.space.now c.get_or_take.new.space c.args.self.now c.get_or_take.new.self (registers_of at c.args.registers.now) c.in-Ends.ending (rw c.in-Ends.is at (got-key g.S.LockSpace c.args.registers.now.granted S for.Explicit c.args.space.now c.get_or_take.new.space c.args.self.now c.get_or_take.new.self c.get_or_take.result _ global_key c.global-global.ensures c.get_or_take.ensures.run))
