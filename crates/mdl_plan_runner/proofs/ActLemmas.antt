@@ -1,5 +1,6 @@
 -- Acts, one after another, and steps that say something.
-use Rattle.std.proofs.Common.{◌≡◌, ℕ, Option, Some, None, Result, Ok, Err, sym, ap, ◌∙◌, subst}
+use Rattle.std.proofs.Common.{◌≡◌, ℕ, Option, Some, None, Result, Ok, Err, List, [], refl, sym, ap, ◌∙◌, subst, inl}
+use Rattle.std.specs.Prelude.{MatchResult, Vec}
 use Rattle.mdl_key.specs.Keys.{KeyName}
 use Rattle.mdl_defs.specs.declared.change.Change.TheVariants as change
 use Rattle.mdl_defs.specs.declared.definition.Definition.{Definition}
@@ -8,26 +9,30 @@ use Rattle.mdl_calls.specs.Words.{Runs}
 use Rattle.mdl_context.specs.Contexts.{last_ticket}
 use Rattle.mdl_syntax.specs.declared.statement.Statement.{Statement}
 use Rattle.mdl_rows.specs.declared.ending.Ending.{Ending}
+use Rattle.mdl_rows.specs.declared.ending.Ending.TheVariants.{Starves}
 use Rattle.mdl_rows.specs.declared.reply.Reply.{Reply}
 use Rattle.mdl_rows.specs.Endings.{closing}
 use Rattle.mdl_rows.specs.Playing.{play}
-use Rattle.mdl_rows.specs.Statements.{give_back}
-use Rattle.mdl_rows.specs.Rows.{Row, Act, Give, ◌>>=◌, ◌>>◌}
+use Rattle.mdl_rows.specs.Statements.{give_back, tables_in}
+use Rattle.mdl_rows.specs.Rows.{Row, Act, Give, Room, ◌>>=◌, ◌>>◌}
+use Rattle.mdl_plans.specs.declared.step.Keys.{Keys}
+use Rattle.mdl_plans.specs.declared.step.Keys.TheVariants as keys
 use Rattle.mdl_plans.specs.declared.step.Step.{Step}
-use Rattle.mdl_plans.specs.Registers.{replying}
+use Rattle.mdl_plans.specs.Registers.{naming, replying}
 use Rattle.mdl_plans.specs.Registers as plan
-use Rattle.mdl_plans.specs.Steps.{doing, move, new_ticket, old_ticket}
+use Rattle.mdl_plans.specs.Steps.{doing, keys_said, move, name_keys, name_of, new_ticket, old_ticket}
 use Rattle.mdl_plans.specs.declared.step.Step.TheVariants as step
 use Rattle.mdl_plan_runner.specs.declared.got.Went.{Went}
 use Rattle.mdl_plan_runner.specs.declared.got.Went.TheVariants as went
+use Rattle.mdl_plan_runner.specs.declared.named.Named.TheVariants.{Listed}
 use Rattle.mdl_plan_runner.specs.declared.registers.Registers.{Registers}
 use Rattle.mdl_plan_runner.specs.Acts.{giving_back, put_and_drop}
 use Rattle.mdl_plan_runner.specs.Attendance.{cached}
-use Rattle.mdl_plan_runner.specs.Gets.{Comes, IsStep, at_rest}
+use Rattle.mdl_plan_runner.specs.Gets.{Comes, IsStep, at_rest, items_told}
 use Rattle.mdl_plan_runner.specs.Held.{registers_of}
-use Rattle.mdl_plan_runner.specs.Made.{IsMade, went_of}
+use Rattle.mdl_plan_runner.specs.Made.{IsMade, IsNamed, NamesOrWants, went_of}
 use Rattle.mdl_plan_runner.specs.Players.{PlayerView}
-use Rattle.mdl_plan_runner.proofs.CallLemmas.{comes-row}
+use Rattle.mdl_plan_runner.proofs.CallLemmas.{comes-row, room-found}
 use Rattle.mdl_plan_runner.proofs.RowLemmas.{bind-assoc}
 use Rattle.mdl_plan_runner.proofs.RunLemmas.{comes-then}
 use Rattle.mdl_plan_runner.proofs.StepLemmas.{act-made}
@@ -98,3 +103,58 @@ moved-made members at a b x y kept new definition result how is same made done =
     (subst (λ (w : Went). IsMade members at step.Move a x kept w b y kept) (sym made)
     (act-made members a b x y (doing at step.Move) (put_and_drop (change.Put definition) (new_ticket at r) (old_ticket at r)) r result
     (ap (λ (m : Option Definition). move m (old_ticket at r) (new_ticket at r) >> Give r) is) done))
+
+-- ---- keys are named
+
+-- the statement says them itself
+name-said : (at : Statement) (which : Keys) → (which ≡ keys.TablesOfSchema → ⊥) → name_keys at which ≡ Give (keys_said at which)
+name-said at keys.Scopes other = refl
+name-said at keys.SchemaOf other = refl
+name-said at keys.OwnSchema other = refl
+name-said at keys.BothScopes other = refl
+name-said at keys.WrittenScopes other = refl
+name-said at keys.Tables other = refl
+name-said at keys.BothNames other = refl
+name-said at keys.TablesOfSchema other = absurd (other refl)
+name-said at keys.UserLock other = refl
+
+-- or memory ran out
+pub said-named : {S : Type 0} (members : Ghosts S) (at : Statement) (which : Keys) (a : S) (x : PlayerView) {Z : Type 0} (result : Result (Vec KeyName Z) Ending) → (which ≡ keys.TablesOfSchema → ⊥) →
+    MatchResult result (λ list. list.items ≡ keys_said at which) (λ ending. ending ≡ Starves) → IsNamed members at which a x (items_told result) a x
+said-named members at which a x (Ok list) other is = λ rest.
+    comes-row _ _ (ap (λ (m : Row (List KeyName)). m >>= (λ named. Room (rest named))) (name-said at which other) ∙ ap (λ (k : List KeyName). Room (rest k)) (sym is))
+said-named members at which a x (Err ending) other is = λ rest.
+    subst (λ (e : Ending). Comes members a x (play (name_keys at which >>= (λ named. Room (rest named)))) a x (closing e)) (sym is)
+    (comes-then (comes-row _ _ (ap (λ (m : Row (List KeyName)). m >>= (λ named. Room (rest named))) (name-said at which other))) (record { so = λ mark pause c run. inl run }))
+
+-- the space tells them
+pub tables-named : {S : Type 0} (members : Ghosts S) (at : Statement) (which : Keys) (a b : S) (x y : PlayerView) (result : Result (List KeyName) Ending) → which ≡ keys.TablesOfSchema →
+    IsStep members (tables_in (name_of at)) a x result b y → IsNamed members at which a x result b y
+tables-named members at which a b x y (Ok told) is made = λ rest.
+    subst (λ (w : Keys). Comes members a x (play (name_keys at w >>= (λ named. Room (rest named)))) b y (play (Room (rest told)))) (sym is) (made (λ named. Room (rest named)))
+tables-named members at which a b x y (Err ending) is made = λ rest.
+    subst (λ (w : Keys). Comes members a x (play (name_keys at w >>= (λ named. Room (rest named)))) b y (closing ending)) (sym is) (made (λ named. Room (rest named)))
+
+-- a step names them
+module _ {S : Type 0} (members : Ghosts S) (at : Statement) (which : Keys) (a b : S) (x y : PlayerView) (kept : Registers) where
+  named-rows : (rest : plan.Registers → Row Reply) → doing at (step.Name which) (registers_of at kept) >>= rest ≡ name_keys at which >>= (λ named. Room (rest (naming named (registers_of at kept))))
+  named-rows rest = bind-assoc (name_keys at which) (λ named. Room (Give (naming named (registers_of at kept)))) rest
+
+  pub named-on : (new : Registers) (told : List KeyName) → new ≡ record kept { named = Listed (record { keys = told; tickets = [] }) } → IsNamed members at which a x (Ok told) b y →
+      IsMade members at (step.Name which) a x kept went.On b y new
+  named-on new told same made = λ rest.
+      comes-then (comes-row _ _ (named-rows rest)) (comes-then (made (λ named. rest (naming named (registers_of at kept))))
+      (comes-then (room-found (rest (naming told (registers_of at kept)))) (comes-row _ _ (ap (λ (k : Registers). rest (registers_of at k)) (sym same)))))
+
+  pub named-want : (new : Registers) (told : List KeyName) → IsNamed members at which a x (Ok told) b y → IsMade members at (step.Name which) a x kept (went.Ends Starves) b y new
+  named-want new told made = λ rest.
+      comes-then (comes-row _ _ (named-rows rest)) (comes-then (made (λ named. rest (naming named (registers_of at kept)))) (record { so = λ mark pause c run. inl run }))
+
+  pub named-ends : (new : Registers) (ending : Ending) → IsNamed members at which a x (Err ending) b y → IsMade members at (step.Name which) a x kept (went.Ends ending) b y new
+  named-ends new ending made = λ rest. comes-then (comes-row _ _ (named-rows rest)) (made (λ named. rest (naming named (registers_of at kept))))
+
+  pub named-made : (new : Registers) (told : List KeyName) (how : Went) → NamesOrWants kept told how new → IsNamed members at which a x (Ok told) b y → IsMade members at (step.Name which) a x kept how b y new
+  named-made new told went.On same made = named-on new told same made
+  named-made new told (went.Waits key mode) never made = absurd never
+  named-made new told (went.Ends ending) starves made =
+      subst (λ (e : Ending). IsMade members at (step.Name which) a x kept (went.Ends e) b y new) (sym starves) (named-want new told made)

@@ -3,15 +3,12 @@ use Rattle.std.specs.Prelude.{ℕ, List}
 use Rattle.mdl_key.specs.Keys.{KeyName}
 use Rattle.mdl_defs.specs.declared.change.Change.{Change}
 use Rattle.mdl_defs.specs.declared.change.Change.TheVariants as change
-use Rattle.mdl_syntax.specs.declared.statement.Statement.{Statement}
 use Rattle.mdl_syntax.specs.declared.table_locks.TableLock.{TableLock}
 use Rattle.mdl_rows.specs.declared.error_number.ErrorNumber.TheVariants.{TableLockedForRead}
 use Rattle.mdl_rows.specs.declared.reply.Reply.{Reply}
 use Rattle.mdl_rows.specs.Rows.{Row, Act, Give, ◌>>=◌, ◌>>◌, check, keep, last_of, redefine, room, set}
 use Rattle.mdl_rows.specs.States.{locking}
 use Rattle.mdl_rows.specs.Statements.{give_back, held_lock, locked_by}
-use Rattle.mdl_plans.specs.declared.step.Keys.{Keys}
-use Rattle.mdl_plans.specs.Steps.{name_keys}
 
 -- checks that a table is locked for writing
 abbrev pub check_held : KeyName → Act
@@ -20,13 +17,6 @@ check_held table = held_lock table >>= (λ locked. check locked.may_write TableL
 -- releases the last ticket of a lock, or finds out who holds it
 abbrev pub giving_back : KeyName → Row Reply
 giving_back lock = last_of lock >>= give_back lock
-
--- names keys, for which there is memory
-abbrev pub naming_keys : Statement → Keys → Row (List KeyName)
-naming_keys at which = do
-  keys ← name_keys at which
-  room
-  Give keys
 
 -- makes a change under one ticket, and drops the definition under another
 abbrev pub put_and_drop : Change → ℕ → ℕ → Act

@@ -1,5 +1,5 @@
 -- What the code returns about a step that it made, and about a plan.
-use Rattle.std.specs.Prelude.{◌≡◌, ℕ, Bool, List, drop, Option, Some, None, Result, Ok, Err}
+use Rattle.std.specs.Prelude.{◌≡◌, ℕ, Bool, List, [], drop, Option, Some, None, Result, Ok, Err}
 use Rattle.std.specs.Option.{option_map}
 use Rattle.mdl_key.specs.declared.mode.Mode.{Mode}
 use Rattle.mdl_key.specs.Keys.{KeyName}
@@ -9,25 +9,28 @@ use Rattle.mdl_context.specs.Wishes.{Wish}
 use Rattle.mdl_calls.specs.Words.{Program}
 use Rattle.mdl_syntax.specs.declared.statement.Statement.{Statement}
 use Rattle.mdl_rows.specs.declared.ending.Ending.{Ending}
+use Rattle.mdl_rows.specs.declared.ending.Ending.TheVariants.{Starves}
 use Rattle.mdl_rows.specs.declared.reply.Reply.{Reply}
 use Rattle.mdl_rows.specs.declared.reply.Reply.TheVariants as reply
 use Rattle.mdl_rows.specs.declared.reply.TableShown.{TableShown}
 use Rattle.mdl_rows.specs.Endings.{Pause, closing}
 use Rattle.mdl_rows.specs.Playing.{play}
-use Rattle.mdl_rows.specs.Rows.{Row, Acquire, Give, ◌>>=◌, upgrade}
+use Rattle.mdl_rows.specs.Rows.{Row, Acquire, Give, Room, ◌>>=◌, upgrade}
 use Rattle.mdl_rows.specs.Sessions.{Left, Session}
 use Rattle.mdl_rows.specs.Statements.{show, show_held}
+use Rattle.mdl_plans.specs.declared.step.Keys.{Keys}
 use Rattle.mdl_plans.specs.declared.step.Step.{Step}
 use Rattle.mdl_plans.specs.Registers.{granting}
 use Rattle.mdl_plans.specs.Registers as plan
 use Rattle.mdl_plans.specs.Seen.{seen}
-use Rattle.mdl_plans.specs.Steps.{doing, meaning, or_granted}
+use Rattle.mdl_plans.specs.Steps.{doing, meaning, name_keys, or_granted}
 use Rattle.mdl_plan_runner.specs.declared.got.LockResult.{LockResult}
 use Rattle.mdl_plan_runner.specs.declared.got.LockResult.TheVariants as got
 use Rattle.mdl_plan_runner.specs.declared.got.Went.{Went}
 use Rattle.mdl_plan_runner.specs.declared.got.Went.TheVariants as went
 use Rattle.mdl_plan_runner.specs.declared.got.Played.{Played}
 use Rattle.mdl_plan_runner.specs.declared.got.Played.TheVariants as played
+use Rattle.mdl_plan_runner.specs.declared.named.Named.TheVariants.{Listed}
 use Rattle.mdl_plan_runner.specs.declared.registers.Registers.{Registers}
 use Rattle.mdl_plan_runner.specs.Gets.{Comes, Waits}
 use Rattle.mdl_plan_runner.specs.Held.{registers_of}
@@ -103,6 +106,19 @@ went_of (Err ending) = went.Ends ending
 abbrev pub StaysIfWaits : Went → PlayerView → PlayerView → Type 0
 StaysIfWaits (went.Waits key mode) before after = after.state ≡ before.state
 StaysIfWaits _ before after = Unit {0}
+
+-- keys are kept as those named last, or memory ran out
+abbrev pub NamesOrWants : Registers → List KeyName → Went → Registers → Type 0
+NamesOrWants old keys went.On new = new ≡ record old { named = Listed (record { keys = keys; tickets = [] }) }
+NamesOrWants old keys (went.Waits key mode) new = ⊥
+NamesOrWants old keys (went.Ends ending) new = ending ≡ Starves
+
+-- keys were named, and memory is wanted for them, or the statement is to end
+abbrev pub IsNamed : {S : Type 0} → Ghosts S → Statement → Keys → S → PlayerView → Result (List KeyName) Ending → S → PlayerView → Type 0
+IsNamed members at which a before (Ok keys) b after =
+    (rest : List KeyName → Row Reply) → Comes members a before (play (name_keys at which >>= (λ named. Room (rest named)))) b after (play (Room (rest keys)))
+IsNamed members at which a before (Err ending) b after =
+    (rest : List KeyName → Row Reply) → Comes members a before (play (name_keys at which >>= (λ named. Room (rest named)))) b after (closing ending)
 
 -- the reply of a step that says nothing
 abbrev pub said_ok : Result (Unit {0}) Ending → Result Reply Ending

@@ -1,16 +1,17 @@
 //! Steps that change definitions, or look at them, by the registers.
-ghost use Rattle.std.specs.Prelude.{◌≡◌, ◌∷◌, [], None, Ok};
+ghost use Rattle.std.specs.Prelude.{◌≡◌, ◌∷◌, [], None, Ok, MatchResult};
+ghost use Rattle.mdl_rows.specs.declared.ending.Ending.TheVariants.{Starves};
 ghost use Rattle.mdl_rows.specs.Rows.{for_each, redefine};
 ghost use Rattle.mdl_rows.specs.Statements.{can_change, check_absent, check_new, keys_of_places, make_table, tables_in};
 ghost use Rattle.mdl_defs.specs.declared.change.Change.TheVariants as change;
 ghost use Rattle.mdl_defs.specs.declared.definition.Definition.TheVariants.{Schema};
-ghost use Rattle.mdl_plans.specs.Steps.{act_of, columns_of, new_ticket, old_ticket, schema_ticket, table_ticket};
+ghost use Rattle.mdl_plans.specs.Steps.{act_of, columns_of, keys_said, new_ticket, old_ticket, schema_ticket, table_ticket};
 ghost use Rattle.mdl_plans.specs.declared.step.Step.TheVariants.{Move, Name, TakeDefinition};
-ghost use Rattle.mdl_plan_runner.specs.Acts.{naming_keys, put_and_drop};
+ghost use Rattle.mdl_plan_runner.specs.Acts.{put_and_drop};
 ghost use Rattle.mdl_plan_runner.specs.Attendance.{GoesOn, IsReady};
 ghost use Rattle.mdl_plan_runner.specs.Gets.{IsStep, items_told};
 ghost use Rattle.mdl_plan_runner.specs.Held.{definition_put, registers_of, tickets_in};
-ghost use Rattle.mdl_plan_runner.specs.Made.{IdleUnlessWent, IsMade};
+ghost use Rattle.mdl_plan_runner.specs.Made.{IdleUnlessWent, IsMade, IsNamed};
 
 use crate::got::{Went, checked};
 use crate::key_lists::keys_said;
@@ -41,13 +42,9 @@ impl<S: LockSpace> Player<S> {
         ensures goes_on { GoesOn S.LockSpace space.old self.old space.new self.new }
         ensures idle { IdleUnlessWent result self.new }
     {
-        let keys = match self.keys_named(space, statement, which) {
-            Ok(keys) => keys,
-            Err(ending) => return Went::Ends(ending),
-        };
-        match registers.name(self.alloc, keys) {
-            Ok(()) => Went::On,
-            Err(_) => Went::Ends(Ending::Starves),
+        match self.keys_named(space, statement, which) {
+            Ok(keys) => registers.name_or_want(self.alloc, keys),
+            Err(ending) => Went::Ends(ending),
         }
     }
 
@@ -59,16 +56,13 @@ impl<S: LockSpace> Player<S> {
         which: Keys,
     ) -> Result<Vec<Key>, Ending>
         requires ready { IsReady S.LockSpace space.old self.old }
-        ensures run { IsStep S.LockSpace (naming_keys statement.now which) space.old self.old (items_told result) space.new self.new }
+        ensures run { IsNamed S.LockSpace statement.now which space.old self.old (items_told result) space.new self.new }
         ensures goes_on { GoesOn S.LockSpace space.old self.old space.new self.new }
         ensures idle { self.new.context.wait ≡ None }
     {
         match which {
             Keys::TablesOfSchema => self.tables_in(space, name_of(statement)),
-            _ => match keys_said(self.alloc, statement, which) {
-                Ok(keys) => Ok(keys),
-                Err(_) => Err(Ending::Starves),
-            },
+            _ => keys_or_want(self.alloc, statement, which),
         }
     }
 
@@ -296,6 +290,16 @@ impl<S: LockSpace> Player<S> {
             return Err(ending);
         }
         self.redefine(space, old, &Change::Drop)
+    }
+}
+
+/// The keys that a statement says itself, unless memory runs out.
+fn keys_or_want(alloc: Global, statement: &Statement, which: Keys) -> Result<Vec<Key>, Ending>
+    ensures { MatchResult result (λ keys. keys.items ≡ keys_said statement.now which) (λ ending. ending ≡ Starves) }
+{
+    match keys_said(alloc, statement, which) {
+        Ok(keys) => Ok(keys),
+        Err(_) => Err(Ending::Starves),
     }
 }
 

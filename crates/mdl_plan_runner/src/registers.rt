@@ -6,6 +6,7 @@ ghost use Rattle.mdl_rows.specs.declared.reply.Reply.TheVariants.{Columns};
 ghost use Rattle.mdl_plan_runner.specs.declared.got.Went.TheVariants.{On};
 ghost use Rattle.mdl_plan_runner.specs.declared.named.Named.TheVariants.{Listed, Table};
 ghost use Rattle.mdl_plan_runner.specs.Held.{registers_of};
+ghost use Rattle.mdl_plan_runner.specs.Made.{NamesOrWants};
 
 use crate::got::Went;
 use crate::lock_list::LockList;
@@ -13,6 +14,7 @@ use crate::named::Named;
 use crate::{Reply, TablesShown};
 use mdl_defs::Definition;
 use mdl_key::Key;
+use mdl_rows::Ending;
 use mdl_space::TicketId;
 use std::alloc::{AllocError, Global};
 use std::mem::{drop, replace};
@@ -56,6 +58,16 @@ impl Registers {
         let locks = LockList::new(alloc, keys)?;
         drop(replace(&mut self.named, Named::Listed(locks)));
         Ok(())
+    }
+
+    /// The same, as a step: if memory runs out, the statement is to end.
+    pub(crate) fn name_or_want(&mut self, alloc: Global, keys: Vec<Key>) -> Went
+        ensures { NamesOrWants self.old keys.items result self.new }
+    {
+        match self.name(alloc, keys) {
+            Ok(()) => Went::On,
+            Err(_) => Went::Ends(Ending::Starves),
+        }
     }
 
     /// Names the statement's table, which is locked with this ticket.
