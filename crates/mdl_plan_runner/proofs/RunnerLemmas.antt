@@ -1,6 +1,7 @@
 -- What a runner does, from what its player does.
-use Rattle.std.proofs.Common.{◌≡◌, ◌∙◌, ℕ, List, drop, Option, Some, None, IfSome, Result, Ok, sym, ap, subst}
+use Rattle.std.proofs.Common.{◌≡◌, ◌∙◌, ℕ, List, drop, Option, Some, None, IfSome, Result, Ok, refl, sym, ap, subst}
 use Rattle.std.specs.Prelude.{is_some}
+use Rattle.std.specs.Option.{option_map}
 use Rattle.mdl_key.specs.declared.mode.Mode.{Mode}
 use Rattle.mdl_key.specs.Keys.{KeyName}
 use Rattle.mdl_defs.specs.Caches.{CacheView}
@@ -28,6 +29,14 @@ use Rattle.mdl_plan_runner.specs.Held.{registers_of}
 use Rattle.mdl_plan_runner.specs.Made.{WaitsAlike, rest_at, session_of}
 use Rattle.mdl_plan_runner.specs.Players.{PlayerView, RunnerView, WorkView}
 use Rattle.mdl_plan_runner.proofs.SeenLemmas.{seen-runs, wait-seen}
+
+-- nothing was there
+some-none : {A : Type 0} {x : A} → Some x ≡ None → ⊥
+some-none e = cc
+
+pub unmapped : {A B : Type 0} (f : A → B) (o : Option A) → option_map f o ≡ None → o ≡ None
+unmapped f None e = refl
+unmapped f (Some x) e = absurd (some-none e)
 
 -- a runner, from its player and its waiting statement
 abbrev pub runner_of : PlayerView → Option WorkView → RunnerView

@@ -42,10 +42,11 @@ impl<S: LockSpace> Player<S> {
         ensures goes_on { GoesOn S.LockSpace space.old self.old space.new self.new }
         ensures idle { IdleUnlessWent result self.new }
     {
-        match self.keys_named(space, statement, which) {
-            Ok(keys) => registers.name_or_want(self.alloc, keys),
-            Err(ending) => Went::Ends(ending),
-        }
+        let keys = match self.keys_named(space, statement, which) {
+            Ok(keys) => keys,
+            Err(ending) => return Went::Ends(ending),
+        };
+        registers.name_or_want(self.alloc, keys)
     }
 
     /// The keys that a step names. Those of a schema's tables are read from the lock space.

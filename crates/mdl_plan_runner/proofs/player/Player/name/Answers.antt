@@ -2,8 +2,8 @@
 use Rattle.mdl_plan_runner.proofs.ActLemmas.{named-ends, named-made}
 use Rattle.mdl_plan_runner.proofs.player.Player.name.Goals as goal
 
-pub returns-in-Ok-clause-run : goal.returns-in-Ok-clause-run
-returns-in-Ok-clause-run g c =
+pub returns-clause-run : goal.returns-clause-run
+returns-clause-run g c =
     named-made g.S.LockSpace c.args.statement.now c.args.which c.args.space.now c.keys_named.new.space c.args.self.now c.keys_named.new.self c.args.registers.now c.name_or_want.new.self c.in-Ok.keys.items c.name_or_want.result
     c.name_or_want.ensures (rw c.in-Ok.is at c.keys_named.ensures.run)
 

@@ -202,3 +202,7 @@ pub returns-in-Kill-clause-run : goal.returns-in-Kill-clause-run
 returns-in-Kill-clause-run g c =
     plain g.S.LockSpace c.args.statement.now c.args.space.now c.kill.new.space c.args.self.now c.kill.new.self c.args.step step.Kill (kill (target_of c.args.statement.now)) c.args.registers.now (Ok tt) c.done-in-Kill.result c.in-Kill.is c.done-in-Kill.ensures
     refl (rw c.target_of.ensures at c.kill.ensures.run)
+
+pub returns-in-GiveBack-clause-run : goal.returns-in-GiveBack-clause-run
+returns-in-GiveBack-clause-run g c =
+    named-step g.S.LockSpace c.args.statement.now c.args.space.now c.give_back.new.space c.args.self.now c.give_back.new.self c.args.step step.GiveBack c.args.registers.now c.give_back.new.registers c.give_back.result c.in-GiveBack.is c.give_back.ensures.run

@@ -11,13 +11,13 @@ loop-table-preserved g c = record {
   idle = c.show_more.ensures.idle;
   goes_on = goes_on-then c.loop-table.invariant.goes_on (goes_on-then c.get_or_take.ensures.goes_on c.show_more.ensures.goes_on);
   run = read-had c.args.statement.now g.S.LockSpace c.args.space.now c.args.self.now c.args.registers.now c.loop-table.space c.get_or_take.new.space c.loop-table.self c.get_or_take.new.self c.loop-table.registers c.in-Some.table.now (sym (rw (c.in-Some.is, c.as_slice.ensures) at c.table_at.ensures)) c.show_more.new.space c.show_more.new.self c.get_or_take.new.registers c.show_more.new.registers c.in-Had.ticket c.get_or_take.ensures.taken c.loop-table.invariant.run
-      (rw c.in-Had.is at c.get_or_take.ensures.run) (rw c.in_default.is at c.show_more.ensures.run) (rw c.in_default.is at c.show_more.ensures.more);
+      (rw c.in-Had.is at c.get_or_take.ensures.run) (rw c.in_default-show_more.is at c.show_more.ensures.run) (rw c.in_default-show_more.is at c.show_more.ensures.more);
 }
 
 pub loop-table-smaller : goal.loop-table-smaller
 loop-table-smaller g c =
     grown-smaller (tables_of c.args.statement.now) c.loop-table.registers.shown c.show_more.new.registers.shown c.in-Some.table.now (sym (rw (c.in-Some.is, c.as_slice.ensures) at c.table_at.ensures))
-    ((rw c.in_default.is at c.show_more.ensures.more) ∙ ap (λ (r : Registers). length r.shown + 1) c.get_or_take.ensures.taken)
+    ((rw c.in_default-show_more.is at c.show_more.ensures.more) ∙ ap (λ (r : Registers). length r.shown + 1) c.get_or_take.ensures.taken)
 
 pub returns-in-Waits-clause-run : goal.returns-in-Waits-clause-run
 returns-in-Waits-clause-run g c =

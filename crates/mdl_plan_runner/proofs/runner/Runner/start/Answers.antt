@@ -13,7 +13,7 @@ use Rattle.mdl_plan_runner.specs.Made.{session_of}
 use Rattle.mdl_plan_runner.specs.Players.{PlayerView, RunnerView, WorkView}
 use Rattle.mdl_calls.proofs.CachedRuns.{run-plain}
 use Rattle.mdl_plan_runner.proofs.PinLemmas.{starts-just}
-use Rattle.mdl_plan_runner.proofs.RunnerLemmas.{runner_of, starts-ended, starts-waiting}
+use Rattle.mdl_plan_runner.proofs.RunnerLemmas.{runner_of, starts-ended, starts-waiting, unmapped}
 use Rattle.mdl_plan_runner.proofs.runner.Runner.start.Goals as goal
 
 pub returns-in-Ends-clause-reads : goal.returns-in-Ends-clause-reads
@@ -49,14 +49,14 @@ returns-in-Waits-clause-run g c =
 pub returns-in-Ends-clause-just : goal.returns-in-Ends-clause-just
 returns-in-Ends-clause-just g c =
     let none = ap (λ (r : RunnerView). r.work) c.self.view_is ∙ c.requires.idle in
-    let idle = sym (ap (λ (r : RunnerView). r.context.wait) c.self.view_is) ∙ c.self.invariant none in
+    let idle = sym (ap (λ (r : RunnerView). r.context.wait) c.self.view_is) ∙ c.self.invariant (unmapped _ c.self.inside.work none) in
     starts-just g.S.LockSpace g.met.S.LockSpace.laws c.args.space.now c.close.new.space (g.T.Holds.shows c.args.statement) c.args.self.now (runner_of c.close.new.self _) c.close.result
     c.requires.attends.attends idle (returns-in-Ends-clause-run g c)
 
 pub returns-in-Waits-clause-just : goal.returns-in-Waits-clause-just
 returns-in-Waits-clause-just g c =
     let none = ap (λ (r : RunnerView). r.work) c.self.view_is ∙ c.requires.idle in
-    let idle = sym (ap (λ (r : RunnerView). r.context.wait) c.self.view_is) ∙ c.self.invariant none in
+    let idle = sym (ap (λ (r : RunnerView). r.context.wait) c.self.view_is) ∙ c.self.invariant (unmapped _ c.self.inside.work none) in
     let work : WorkView = record { statement = g.T.Holds.shows c.args.statement; registers = c.play.new.registers; plan = c.plan_of-plan.result.now; at = c.in-Waits.at; mark = c.mark-mark.result } in
     starts-just {E = OutOfMemory} g.S.LockSpace g.met.S.LockSpace.laws c.args.space.now c.play.new.space (g.T.Holds.shows c.args.statement) c.args.self.now (runner_of c.play.new.self (Some work))
     (Ok (Waiting c.in-Waits.key c.in-Waits.mode)) c.requires.attends.attends idle (returns-in-Waits-clause-run g c)
