@@ -1,26 +1,20 @@
 -- ALTER TABLE: whether it may begin, what it checks, and what a session that has locked tables does.
-use Rattle.std.proofs.Common.{◌≡◌, ◌⊎◌, Bool, true, false, Option, Some, None, sym, ap, ◌∙◌, subst, inl, inr, if◌then◌else◌}
-use Rattle.std.specs.Prelude.{find, is_some}
-use Rattle.mdl_key.specs.Keys.{KeyName, key_eq}
+use Rattle.std.proofs.Common.{◌≡◌, ◌⊎◌, Bool, Option, Some, None, sym, ap, ◌∙◌, subst, inl, inr}
 use Rattle.mdl_defs.specs.declared.def_error.DefError.{DefError}
 use Rattle.mdl_calls.specs.Words.{Runs}
 use Rattle.mdl_calls.specs.declared.lock_space.LockSpace.{Ghosts}
-use Rattle.mdl_syntax.specs.declared.statement.Alteration.{Alteration}
-use Rattle.mdl_context.specs.declared.request.Mark.{Mark}
 use Rattle.mdl_rows.specs.declared.ending.Ending.{Ending}
 use Rattle.mdl_rows.specs.declared.ending.Ending.TheVariants.{Answers, Starves}
-use Rattle.mdl_rows.specs.declared.error_number.ErrorNumber.TheVariants.{TableLockedForRead, VersionLimit}
-use Rattle.mdl_rows.specs.declared.state.Locked.{Locked}
+use Rattle.mdl_rows.specs.declared.error_number.ErrorNumber.TheVariants.{VersionLimit}
 use Rattle.mdl_rows.specs.declared.reply.Reply.{Reply}
 use Rattle.mdl_rows.specs.declared.reply.Reply.TheVariants as reply
 use Rattle.mdl_rows.specs.Endings.{closing}
 use Rattle.mdl_plan_runner.specs.Attendance.{cached}
 use Rattle.mdl_plan_runner.specs.Gets.{Comes, at_rest}
 use Rattle.mdl_rows.specs.Playing.{play}
-use Rattle.mdl_rows.specs.Rows.{Row, check, look, room, ◌>>=◌, ◌>>◌}
+use Rattle.mdl_rows.specs.Rows.{Row, check, room, ◌>>=◌, ◌>>◌}
 use Rattle.mdl_plan_runner.specs.Players.{PlayerView}
-use Rattle.mdl_rows.specs.States.{State, has_locked}
-use Rattle.mdl_rows.specs.Statements.{alter_among_locked, alter_first, alter_in_schema, alter_locked, alter_unlocked, among_locked, check_fault, commit_first, fault_number}
+use Rattle.mdl_rows.specs.Statements.{check_fault, fault_number}
 
 -- ---- checks
 

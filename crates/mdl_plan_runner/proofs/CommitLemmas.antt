@@ -5,7 +5,7 @@ use Rattle.mdl_context.specs.declared.request.Mark.{Mark}
 use Rattle.mdl_syntax.specs.declared.statement.Statement.{Statement}
 use Rattle.mdl_rows.specs.declared.reply.Reply.{Reply}
 use Rattle.mdl_rows.specs.Playing.{play}
-use Rattle.mdl_rows.specs.Rows.{Row, Act, Give, set, ◌>>=◌, ◌>>◌}
+use Rattle.mdl_rows.specs.Rows.{Row, Give, set, ◌>>=◌, ◌>>◌}
 use Rattle.mdl_rows.specs.States.{State, after_write}
 use Rattle.mdl_rows.specs.Statements.{end_transaction}
 use Rattle.mdl_plans.specs.Registers.{Registers, granting}
@@ -14,8 +14,8 @@ use Rattle.mdl_plans.specs.Steps.{commit_under, doing}
 use Rattle.mdl_plans.specs.declared.step.Step.TheVariants as step
 use Rattle.mdl_plan_runner.specs.declared.got.Went.{Went}
 use Rattle.mdl_plan_runner.specs.declared.got.Went.TheVariants as went
-use Rattle.mdl_plan_runner.specs.Gets.{Comes, IsStep, at_rest}
-use Rattle.mdl_plan_runner.specs.Made.{IsMadeBy, StaysIfWaits, WaitsAlike}
+use Rattle.mdl_plan_runner.specs.Gets.{IsStep, at_rest}
+use Rattle.mdl_plan_runner.specs.Made.{IsMadeBy, StaysIfWaits}
 use Rattle.mdl_plan_runner.specs.Players.{PlayerView}
 use Rattle.mdl_plan_runner.proofs.CallLemmas.{comes-row}
 use Rattle.mdl_plan_runner.proofs.RowLemmas.{bind-assoc}

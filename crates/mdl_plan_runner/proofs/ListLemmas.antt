@@ -1,21 +1,14 @@
 -- Tables and tickets, one after the other.
 use Rattle.std.proofs.Common.{◌≡◌, ℕ, ◌+◌, ◌<◌, ◌≤◌, suc, zero, arith, List, [], ◌∷◌, Ok, Err, drop, length, get_or, refl, sym, ap, ◌∙◌, subst}
 use Rattle.std.proofs.Math.Seq.{drop-cons}
-use Rattle.mdl_key.specs.Keys.{KeyName}
-use Rattle.mdl_key.specs.declared.mode.Mode.TheVariants.{SR}
-use Rattle.mdl_key.specs.declared.mode.Duration.TheVariants as for
 use Rattle.mdl_calls.specs.declared.lock_space.LockSpace.{Ghosts}
-use Rattle.mdl_context.specs.Wishes.{Wish}
 use Rattle.mdl_rows.specs.declared.ending.Ending.{Ending}
-use Rattle.mdl_plan_runner.specs.declared.got.LockResult.TheVariants as got
 use Rattle.mdl_rows.specs.declared.reply.Reply.{Reply}
-use Rattle.mdl_rows.specs.declared.reply.TableShown.{TableShown}
 use Rattle.mdl_rows.specs.Endings.{closing}
-use Rattle.mdl_plan_runner.specs.Gets.{Comes, Waits, IsGot, IsStep}
+use Rattle.mdl_plan_runner.specs.Gets.{Comes, IsStep}
 use Rattle.mdl_rows.specs.Playing.{play}
 use Rattle.mdl_rows.specs.Rows.{Row, Act, ◌>>=◌, for_each}
 use Rattle.mdl_plan_runner.specs.Players.{PlayerView}
-use Rattle.mdl_rows.specs.Statements.{lock_to_read, show, show_all}
 use Rattle.mdl_plan_runner.proofs.CallLemmas.{comes-row}
 use Rattle.mdl_plan_runner.proofs.RowLemmas.{bind-assoc}
 use Rattle.mdl_plan_runner.proofs.RunLemmas.{comes-then}

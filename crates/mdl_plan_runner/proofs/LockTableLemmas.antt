@@ -1,5 +1,5 @@
 -- LOCK TABLES, step by step.
-use Rattle.std.proofs.Common.{◌≡◌, ℕ, Bool, true, false, ◌&&◌, not, List, Option, Some, None, Result, Ok, Err, map, refl, inl, inr, subst, if◌then◌else◌}
+use Rattle.std.proofs.Common.{◌≡◌, ℕ, List, Option, Some, None, Result, Ok, Err, map, inl, inr, subst, if◌then◌else◌}
 use Rattle.std.specs.Prelude.{is_some, IsOk, OnOk}
 use Rattle.mdl_key.specs.declared.mode.Duration.TheVariants.{Explicit}
 use Rattle.mdl_key.specs.Refusals.{RefusesJust}
@@ -7,23 +7,20 @@ use Rattle.mdl_calls.specs.declared.lock_space.LockSpace.{Ghosts}
 use Rattle.mdl_context.specs.declared.context_error.ContextError.{ContextError}
 use Rattle.mdl_context.specs.declared.context_error.ContextError.TheVariants.{Waiting}
 use Rattle.mdl_context.specs.declared.kept.Wanted.{Wanted}
-use Rattle.mdl_context.specs.declared.request.Mark.{Mark}
 use Rattle.mdl_context.specs.Contexts.{ContextView}
 use Rattle.mdl_context.specs.Holdings.{kept_for}
 use Rattle.mdl_context.specs.Releases.{waiting_fault}
 use Rattle.mdl_rows.specs.declared.ending.Ending.TheVariants.{Answers, Starves}
-use Rattle.mdl_rows.specs.declared.error_number.ErrorNumber.TheVariants.{ConflictingReadLock}
 use Rattle.mdl_rows.specs.declared.state.Locked.{Locked}
 use Rattle.mdl_rows.specs.declared.reply.Reply.{Reply}
 use Rattle.mdl_rows.specs.declared.reply.Reply.TheVariants as reply
 use Rattle.mdl_rows.specs.Endings.{closing}
-use Rattle.mdl_plan_runner.specs.Gets.{Comes, at_rest}
+use Rattle.mdl_plan_runner.specs.Gets.{Comes}
 use Rattle.mdl_rows.specs.Playing.{play}
 use Rattle.mdl_rows.specs.Rows.{Row, Give, check, ◌>>◌}
 use Rattle.mdl_rows.specs.Rows as row
 use Rattle.mdl_plan_runner.specs.Players.{PlayerView}
 use Rattle.mdl_rows.specs.States.{locking}
-use Rattle.mdl_rows.specs.Statements.{check_writes}
 
 -- a session all of whose tickets are kept
 abbrev pub all_explicit : ContextView → ContextView

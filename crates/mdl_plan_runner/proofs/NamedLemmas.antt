@@ -1,5 +1,5 @@
 -- Named keys, locked one after the other.
-use Rattle.std.proofs.Common.{◌≡◌, ◌+◌, ◌-◌, ◌<◌, ℕ, Bool, true, false, List, [], ◌∷◌, ◌++◌, drop, suc, length, Option, Some, None, refl, sym, ap, ◌∙◌, subst, arith, if◌then◌else◌}
+use Rattle.std.proofs.Common.{◌≡◌, ◌+◌, ◌-◌, ◌<◌, ℕ, Bool, true, List, [], ◌∷◌, ◌++◌, drop, suc, length, Option, Some, None, sym, ap, ◌∙◌, subst, arith, if◌then◌else◌}
 use mathlib.Core.Path.{fun_ext}
 use Rattle.std.specs.Prelude.{slice_get, nat_lt}
 use Rattle.std.proofs.Math.ListN.{drop_of_length-le}
@@ -14,7 +14,6 @@ use Rattle.mdl_syntax.specs.declared.statement.Statement.{Statement}
 use Rattle.mdl_context.specs.Wishes.{Wish}
 use Rattle.mdl_rows.specs.declared.ending.Ending.{Ending}
 use Rattle.mdl_rows.specs.declared.reply.Reply.{Reply}
-use Rattle.mdl_rows.specs.Endings.{closing}
 use Rattle.mdl_rows.specs.Playing.{play}
 use Rattle.mdl_rows.specs.Rows.{Row, Acquire, Give, ◌>>=◌}
 use Rattle.mdl_rows.specs.Statements.{table_lock}
@@ -24,17 +23,17 @@ use Rattle.mdl_plans.specs.declared.step.Step.TheVariants as step
 use Rattle.mdl_plans.specs.Registers.{granting, with_ticket}
 use Rattle.mdl_plans.specs.Registers as plan
 use Rattle.mdl_plans.specs.Seen.{seen}
-use Rattle.mdl_plans.specs.Steps.{doing, getting, lock_each, locks_of, or_granted, request_for, table_of}
+use Rattle.mdl_plans.specs.Steps.{doing, getting, lock_each, locks_of, request_for, table_of}
 use Rattle.mdl_plan_runner.specs.declared.got.LockResult.{LockResult}
 use Rattle.mdl_plan_runner.specs.declared.got.LockResult.TheVariants as got
 use Rattle.mdl_plan_runner.specs.declared.got.Went.TheVariants as went
 use Rattle.mdl_plan_runner.specs.declared.named.Named.{Named}
 use Rattle.mdl_plan_runner.specs.declared.named.Named.TheVariants.{Listed, Table}
 use Rattle.mdl_plan_runner.specs.declared.registers.Registers.{Registers}
-use Rattle.mdl_plan_runner.specs.Gets.{Comes, Waits}
+use Rattle.mdl_plan_runner.specs.Gets.{Comes}
 use Rattle.mdl_plan_runner.specs.Held.{keys_in, registers_of, tickets_in, with_ticket_of_next}
 use Rattle.mdl_plan_runner.specs.LockLists.{LockList}
-use Rattle.mdl_plan_runner.specs.Made.{IsGotBy, IsGotOr, IsMade, WaitsAlike}
+use Rattle.mdl_plan_runner.specs.Made.{IsGotOr, IsMade, WaitsAlike}
 use Rattle.mdl_plan_runner.specs.Players.{PlayerView}
 use Rattle.mdl_plan_runner.proofs.CallLemmas.{comes-row}
 use Rattle.mdl_plan_runner.proofs.LockListLemmas.{ddl-so}

@@ -4,7 +4,7 @@ use Rattle.std.specs.Option.{option_map}
 use Rattle.mdl_calls.specs.declared.lock_space.LockSpace.{Ghosts}
 use Rattle.mdl_calls.specs.MemberLaws.{LawsOf}
 use Rattle.mdl_calls.specs.Words.{Program, Runs}
-use Rattle.mdl_context.specs.Contexts.{Attends, ContextView}
+use Rattle.mdl_context.specs.Contexts.{Attends}
 use Rattle.mdl_context.specs.Tidying.{PinsJustNeeded}
 use Rattle.mdl_syntax.specs.declared.statement.Statement.{Statement}
 use Rattle.mdl_rows.specs.Endings.{Pause}

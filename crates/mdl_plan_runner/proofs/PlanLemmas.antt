@@ -13,7 +13,7 @@ use Rattle.mdl_plans.specs.declared.step.Step.{Step}
 use Rattle.mdl_plans.specs.Registers.{granting}
 use Rattle.mdl_plans.specs.Registers as plan
 use Rattle.mdl_plans.specs.Seen.{seen}
-use Rattle.mdl_plans.specs.Steps.{doing, meaning}
+use Rattle.mdl_plans.specs.Steps.{meaning}
 use Rattle.mdl_plan_runner.specs.declared.got.Went.TheVariants as went
 use Rattle.mdl_plan_runner.specs.declared.registers.Registers.{Registers}
 use Rattle.mdl_plan_runner.specs.Gets.{Comes}

@@ -1,6 +1,5 @@
 -- SELECT: one table after the other.
 use Rattle.std.proofs.Common.{◌≡◌, ℕ, ◌+◌, ◌-◌, ◌<◌, List, [], ◌∷◌, ◌++◌, drop, suc, length, Option, Some, None, Result, Ok, Err, refl, sym, ap, ◌∙◌, subst, arith}
-use mathlib.Core.Path.{fun_ext}
 use Rattle.std.specs.Prelude.{IfOk, MatchResult, find, slice_get}
 use Rattle.std.proofs.lemmas.List.{length-append}
 use Rattle.std.proofs.lemmas.Option.{slice_get_within}
@@ -18,7 +17,6 @@ use Rattle.mdl_rows.specs.declared.reply.Reply.{Reply}
 use Rattle.mdl_rows.specs.declared.reply.Reply.TheVariants as reply
 use Rattle.mdl_rows.specs.declared.reply.TableShown.{TableShown}
 use Rattle.mdl_rows.specs.declared.state.Locked.{Locked}
-use Rattle.mdl_rows.specs.Endings.{closing}
 use Rattle.mdl_rows.specs.Playing.{play}
 use Rattle.mdl_rows.specs.Rows.{Row, Acquire, Give, ◌>>=◌}
 use Rattle.mdl_rows.specs.Statements.{among_locked, lock_held, show, show_held}
@@ -26,7 +24,7 @@ use Rattle.mdl_plans.specs.declared.step.Step.TheVariants as step
 use Rattle.mdl_plans.specs.Registers.{granting, replying, showing}
 use Rattle.mdl_plans.specs.Registers as plan
 use Rattle.mdl_plans.specs.Seen.{seen}
-use Rattle.mdl_plans.specs.Steps.{doing, getting, or_granted, read_each, read_held, tables_of}
+use Rattle.mdl_plans.specs.Steps.{doing, getting, read_each, read_held, tables_of}
 use Rattle.mdl_plan_runner.specs.declared.got.LockResult.TheVariants as got
 use Rattle.mdl_plan_runner.specs.declared.got.Went.TheVariants as went
 use Rattle.mdl_plan_runner.specs.declared.registers.Registers.{Registers}

@@ -1,23 +1,7 @@
 -- Rows: one after another, and what they come to by what a session keeps.
-use Rattle.std.proofs.Common.{◌≡◌, ℕ, Bool, not, List, refl, sym, ap, if◌then◌else◌}
+use Rattle.std.proofs.Common.{◌≡◌, refl, ap}
 use mathlib.Core.Path.{fun_ext}
-use Rattle.std.specs.Prelude.{is_some}
-use Rattle.mdl_key.specs.Keys.{KeyName}
-use Rattle.mdl_syntax.specs.declared.statement.Alteration.{Alteration}
-use Rattle.mdl_syntax.specs.declared.statement.Priority.{Priority}
-use Rattle.mdl_context.specs.declared.request.Mark.{Mark}
-use Rattle.mdl_rows.specs.declared.error_number.ErrorNumber.TheVariants.{ConflictingReadLock}
-use Rattle.mdl_rows.specs.declared.reply.Reply.{Reply}
-use Rattle.mdl_rows.specs.declared.reply.Reply.TheVariants as reply
-use Rattle.mdl_syntax.specs.declared.statement.Statement.{Statement}
-use Rattle.mdl_syntax.specs.declared.statement.Statement.TheVariants as statement
-use Rattle.mdl_syntax.specs.declared.table_locks.TableLock.{TableLock}
-use Rattle.mdl_plan_runner.specs.Gets.{at_rest}
-use Rattle.mdl_rows.specs.Playing.{play}
-use Rattle.mdl_rows.specs.Rows.{Row, Give, Fail, Room, Look, Set, Here, Acquire, Try_acquire, Last, Upgrade, Downgrade, Give_up, Release, Read, Redefine, Kill, ◌>>=◌, ◌>>◌, check, Keep, Tables_of, Key_of}
-use Rattle.mdl_plan_runner.specs.Players.{PlayerView}
-use Rattle.mdl_rows.specs.States.{has_locked}
-use Rattle.mdl_rows.specs.Statements.{after_commit, no_read_lock, write, write_locked, write_unlocked}
+use Rattle.mdl_rows.specs.Rows.{Row, Give, Fail, Room, Look, Set, Here, Acquire, Try_acquire, Last, Upgrade, Downgrade, Give_up, Release, Read, Redefine, Kill, ◌>>=◌, Keep, Tables_of, Key_of}
 
 -- three rows in a row
 pub bind-assoc : {A B C : Type 0} (m : Row A) (f : A → Row B) (g : B → Row C) → (m >>= f) >>= g ≡ m >>= (λ x. f x >>= g)

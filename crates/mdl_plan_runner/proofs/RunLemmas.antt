@@ -1,9 +1,7 @@
 -- How what a session does comes to the next thing, one thing after the other.
 use Rattle.std.proofs.Common.{◌≡◌, ℕ, Bool, if◌then◌else◌, List, Option, Some, None, Result, Ok, Err, refl, sym, ap, ◌∙◌, subst, inl, inr, true, false}
 use Rattle.mdl_key.specs.declared.mode.Mode.{Mode}
-use Rattle.mdl_key.specs.declared.mode.Mode.TheVariants.{IX}
-use Rattle.mdl_key.specs.declared.mode.Duration.TheVariants.{Explicit}
-use Rattle.mdl_key.specs.Keys.{KeyName, commit_key, user_lock_key}
+use Rattle.mdl_key.specs.Keys.{KeyName}
 use Rattle.mdl_defs.specs.Caches.{CacheView}
 use Rattle.mdl_calls.specs.declared.lock_space.LockSpace.{Ghosts}
 use Rattle.mdl_calls.specs.Words.{Program, Runs}
@@ -17,7 +15,7 @@ use Rattle.mdl_context.specs.declared.request.Mark.{Mark}
 use Rattle.mdl_context.specs.declared.request.Resume.{Resume}
 use Rattle.mdl_context.specs.declared.request.Resume.TheVariants as resume
 use Rattle.mdl_context.specs.declared.request.Tried.TheVariants as try_as
-use Rattle.mdl_context.specs.Contexts.{ContextView, of_transaction, beyond_mark, last_ticket}
+use Rattle.mdl_context.specs.Contexts.{ContextView, of_transaction, beyond_mark}
 use Rattle.mdl_context.specs.Releases.{releasing, releasing_tickets}
 use Rattle.mdl_context.specs.Requests.{Outcome, acquiring, trying}
 use Rattle.mdl_context.specs.Upgrades.{upgrading, downgrading}
@@ -41,8 +39,8 @@ use Rattle.mdl_rows.specs.Rows.{Row, Act, Give, ◌>>◌, ◌>>=◌}
 use Rattle.mdl_rows.specs.Rows as row
 use Rattle.mdl_rows.specs.Sessions.{Session}
 use Rattle.mdl_plan_runner.specs.Players.{PlayerView}
-use Rattle.mdl_rows.specs.Statements.{end_transaction, rollback, rollback_to, go_back, give_back}
-use Rattle.mdl_rows.specs.States.{after_write, without_transaction, is_savepoint_named, savepoint_mark, up_to}
+use Rattle.mdl_rows.specs.Statements.{end_transaction, rollback, rollback_to, go_back}
+use Rattle.mdl_rows.specs.States.{without_transaction, is_savepoint_named, savepoint_mark, up_to}
 use Rattle.mdl_rows.specs.declared.reply.Reply.TheVariants as reply
 use Rattle.mdl_plan_runner.proofs.CachedLemmas.{acquires, downgrades, gives_up, gives_up_wait, releases, tries, upgrades}
 

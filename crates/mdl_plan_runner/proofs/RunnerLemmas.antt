@@ -1,5 +1,5 @@
 -- What a runner does, from what its player does.
-use Rattle.std.proofs.Common.{◌≡◌, ◌∙◌, ℕ, List, drop, Option, Some, None, IfSome, Result, Ok, option_map, refl, sym, ap, subst}
+use Rattle.std.proofs.Common.{◌≡◌, ℕ, List, drop, Option, Some, None, IfSome, Result, option_map, refl, sym, subst}
 use Rattle.std.specs.Prelude.{is_some}
 use Rattle.mdl_key.specs.declared.mode.Mode.{Mode}
 use Rattle.mdl_key.specs.Keys.{KeyName}
@@ -11,7 +11,7 @@ use Rattle.mdl_context.specs.Contexts.{current_mark}
 use Rattle.mdl_syntax.specs.declared.statement.Statement.{Statement}
 use Rattle.mdl_rows.specs.declared.ending.Ending.{Ending}
 use Rattle.mdl_rows.specs.Endings.{Pause, Begins_to_wait, closing}
-use Rattle.mdl_rows.specs.Playing.{play, starting, with_left}
+use Rattle.mdl_rows.specs.Playing.{play, starting}
 use Rattle.mdl_rows.specs.States.{has_locked}
 use Rattle.mdl_plans.specs.declared.step.Step.{Step}
 use Rattle.mdl_plans.specs.Plans.{plan_of}

@@ -1,11 +1,10 @@
 -- Runs of programs, with what the rests of their statements look at filled in.
-use Rattle.std.proofs.Common.{◌≡◌, ℕ, refl, inl, inr, subst, sym, ap, ◌∙◌, Some}
+use Rattle.std.proofs.Common.{◌≡◌, ℕ, refl, inl, inr, ap}
 use mathlib.Core.Path.{fun_ext}
 use Rattle.mdl_key.specs.declared.mode.Mode.{Mode}
 use Rattle.mdl_key.specs.Keys.{KeyName}
 use Rattle.mdl_calls.specs.Words.{Answer, Call, Program, Give, Ask, Grow, Runs, ◌>>=◌}
 use Rattle.mdl_calls.proofs.RunLemmas.{runs_bind}
-use Rattle.mdl_context.specs.Contexts.{ContextView}
 use Rattle.mdl_context.specs.declared.request.Mark.{Mark}
 use Rattle.mdl_rows.specs.declared.reply.Reply.{Reply}
 use Rattle.mdl_rows.specs.Endings.{Pause, Ends, Begins_to_wait, Waits_on, Faults}

@@ -1,5 +1,5 @@
 -- Steps that get a lock.
-use Rattle.std.proofs.Common.{◌≡◌, ℕ, Option, Some, None, List, Result, Ok, Err, refl, sym, ap, ◌∙◌, subst}
+use Rattle.std.proofs.Common.{◌≡◌, ℕ, Option, None, Result, Ok, Err, refl, sym, ap, ◌∙◌, subst}
 use Rattle.mdl_key.specs.declared.mode.Mode.{Mode}
 use Rattle.mdl_key.specs.Keys.{KeyName}
 use Rattle.mdl_calls.specs.declared.lock_space.LockSpace.{Ghosts}
@@ -12,18 +12,16 @@ use Rattle.mdl_rows.specs.Endings.{Pause, closing}
 use Rattle.mdl_rows.specs.Playing.{play}
 use Rattle.mdl_rows.specs.Rows.{Row, Act, Give, Acquire, ◌>>=◌, ◌>>◌, upgrade}
 use Rattle.mdl_rows.specs.Sessions.{Session}
-use Rattle.mdl_plans.specs.Registers.{Registers, granting}
+use Rattle.mdl_plans.specs.Registers.{Registers}
 use Rattle.mdl_plans.specs.Steps.{or_granted}
 use Rattle.mdl_plan_runner.specs.declared.got.LockResult.{LockResult}
 use Rattle.mdl_plan_runner.specs.declared.got.LockResult.TheVariants as got
-use Rattle.mdl_plan_runner.specs.declared.got.Went.{Went}
-use Rattle.mdl_plan_runner.specs.declared.got.Went.TheVariants as went
 use Rattle.mdl_plan_runner.specs.Gets.{Comes, Waits, IsGot, IsStep, IsUpgradeResult}
 use Rattle.mdl_plan_runner.specs.Made.{IsGotBy, IsMadeBy, WaitsAlike, went_of}
 use Rattle.mdl_plan_runner.specs.Players.{PlayerView}
 use Rattle.mdl_plan_runner.proofs.CallLemmas.{comes-row}
 use Rattle.mdl_plan_runner.proofs.RowLemmas.{bind-assoc}
-use Rattle.mdl_plan_runner.proofs.RunLemmas.{comes-same, comes-then, comes-waits}
+use Rattle.mdl_plan_runner.proofs.RunLemmas.{comes-then, comes-waits}
 
 -- ---- waits
 

@@ -1,5 +1,5 @@
 -- Steps that get a lock, and what is kept after them.
-use Rattle.std.proofs.Common.{◌≡◌, ℕ, Option, Some, None, sym, ap, ◌∙◌, subst}
+use Rattle.std.proofs.Common.{◌≡◌, ℕ, Option, None, sym, ap, ◌∙◌, subst}
 use Rattle.mdl_key.specs.declared.mode.Mode.{Mode}
 use Rattle.mdl_key.specs.declared.mode.Duration.{Duration}
 use Rattle.mdl_key.specs.Keys.{KeyName}
@@ -7,7 +7,6 @@ use Rattle.mdl_calls.specs.declared.lock_space.LockSpace.{Ghosts}
 use Rattle.mdl_syntax.specs.declared.statement.Statement.{Statement}
 use Rattle.mdl_rows.specs.declared.ending.Ending.{Ending}
 use Rattle.mdl_rows.specs.declared.reply.Reply.{Reply}
-use Rattle.mdl_rows.specs.Endings.{closing}
 use Rattle.mdl_rows.specs.Playing.{play}
 use Rattle.mdl_rows.specs.Rows.{Row, ◌>>=◌}
 use Rattle.mdl_plans.specs.Registers.{granting, taken}
@@ -18,7 +17,7 @@ use Rattle.mdl_plan_runner.specs.declared.got.LockResult.{LockResult}
 use Rattle.mdl_plan_runner.specs.declared.got.LockResult.TheVariants as got
 use Rattle.mdl_plan_runner.specs.declared.got.Went.TheVariants as went
 use Rattle.mdl_plan_runner.specs.declared.registers.Registers.{Registers}
-use Rattle.mdl_plan_runner.specs.Gets.{Comes, Waits}
+use Rattle.mdl_plan_runner.specs.Gets.{Comes}
 use Rattle.mdl_plan_runner.specs.Held.{registers_of}
 use Rattle.mdl_plan_runner.specs.Made.{IsGotBy, IsGotOr, IsMadeBy, WaitsAlike}
 use Rattle.mdl_plan_runner.specs.Players.{PlayerView}

@@ -6,7 +6,7 @@ use Rattle.mdl_defs.specs.declared.change.Change.TheVariants as change
 use Rattle.mdl_syntax.specs.declared.table_locks.TableLock.{TableLock}
 use Rattle.mdl_rows.specs.declared.error_number.ErrorNumber.TheVariants.{TableLockedForRead}
 use Rattle.mdl_rows.specs.declared.reply.Reply.{Reply}
-use Rattle.mdl_rows.specs.Rows.{Row, Act, Give, ◌>>=◌, ◌>>◌, check, keep, last_of, redefine, room, set}
+use Rattle.mdl_rows.specs.Rows.{Row, Act, ◌>>=◌, ◌>>◌, check, keep, last_of, redefine, room, set}
 use Rattle.mdl_rows.specs.States.{locking}
 use Rattle.mdl_rows.specs.Statements.{give_back, held_lock, locked_by}
 

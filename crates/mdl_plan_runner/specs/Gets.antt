@@ -22,7 +22,7 @@ use Rattle.mdl_plan_runner.specs.declared.progress.Progress.TheVariants.{Waiting
 use Rattle.mdl_rows.specs.declared.reply.Reply.{Reply}
 use Rattle.mdl_rows.specs.Endings.{Pause, Ends, Begins_to_wait, Waits_on, Faults, closing, letting_go}
 use Rattle.mdl_rows.specs.Playing.{play, untold, with_left}
-use Rattle.mdl_rows.specs.Rows.{Row, Act, Acquire, Upgrade, ◌>>=◌, ◌>>◌}
+use Rattle.mdl_rows.specs.Rows.{Row, Acquire, Upgrade, ◌>>=◌}
 use Rattle.mdl_rows.specs.Sessions.{Session}
 use Rattle.mdl_plan_runner.specs.Players.{PlayerView}
 

@@ -152,7 +152,11 @@ impl<S: LockSpace> Player<S> {
     }
 
     /// The definition of a table. Fails if there is no such table.
-    pub(crate) fn definition_under(&mut self, space: &mut S, ticket: TicketId) -> Result<Definition, Ending>
+    pub(crate) fn definition_under(
+        &mut self,
+        space: &mut S,
+        ticket: TicketId,
+    ) -> Result<Definition, Ending>
         requires ready { IsReady S.LockSpace space.old self.old }
         ensures run { IsStep S.LockSpace (definition_under ticket) space.old self.old result space.new self.new }
         ensures goes_on { GoesOn S.LockSpace space.old self.old space.new self.new }
@@ -194,7 +198,6 @@ impl<S: LockSpace> Player<S> {
             Err(ending) => Err(ending),
         }
     }
-
 }
 
 /// Checks that a definition can be changed in this way.

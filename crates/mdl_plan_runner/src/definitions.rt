@@ -15,8 +15,8 @@ ghost use Rattle.mdl_plan_runner.specs.Made.{IdleUnlessWent, IsMade, IsNamed};
 
 use crate::got::{Went, checked};
 use crate::key_lists::keys_said;
-use crate::names::{columns_of, name_of, new_name_of, schema_within, table_of};
 use crate::named::Named;
+use crate::names::{columns_of, name_of, new_name_of, schema_within, table_of};
 use crate::player::Player;
 use crate::registers::Registers;
 use mdl_defs::{Change, Columns, Definition};
@@ -119,12 +119,7 @@ impl<S: LockSpace> Player<S> {
     }
 
     /// Does the same under each of these tickets.
-    fn under_each(
-        &mut self,
-        space: &mut S,
-        tickets: &[TicketId],
-        act: Act,
-    ) -> Result<(), Ending>
+    fn under_each(&mut self, space: &mut S, tickets: &[TicketId], act: Act) -> Result<(), Ending>
         requires ready { IsReady S.LockSpace space.old self.old }
         ensures run { IsStep S.LockSpace (for_each (act_of act) tickets.now) space.old self.old result space.new self.new }
         ensures goes_on { GoesOn S.LockSpace space.old self.old space.new self.new }
@@ -331,7 +326,10 @@ fn new_ticket(alloc: Global, registers: &Registers, statement: &Statement) -> Ti
     ensures { result ≡ new_ticket statement.now (registers_of statement.now registers.now) }
 {
     let global = Key::global(alloc);
-    registers.named.ticket_of(new_name_of(statement, &global), table_of(statement, &global))
+    registers.named.ticket_of(
+        new_name_of(statement, &global),
+        table_of(statement, &global),
+    )
 }
 
 /// The ticket of the schema that has to exist, or that is created or dropped.

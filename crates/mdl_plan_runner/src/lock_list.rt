@@ -118,7 +118,9 @@ fn index_of_schema(keys: &[Key], schema: &str) -> Option<usize>
 pub(crate) fn is_schema(key: &Key, schema: &str) -> bool
     ensures { result ≡ key_eq (schema_key schema.now) key.now }
 {
-    key.namespace() == Namespace::Schema && schema == key.schema_name() && key.table_name().is_empty()
+    key.namespace() == Namespace::Schema
+        && schema == key.schema_name()
+        && key.table_name().is_empty()
 }
 
 // The ticket at an index, or 0.

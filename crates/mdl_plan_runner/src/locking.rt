@@ -10,11 +10,11 @@ ghost use Rattle.mdl_plans.specs.declared.step.Step.TheVariants.{LockCommits, Lo
 ghost use Rattle.mdl_plan_runner.specs.Attendance.{GoesOn, IsReady};
 ghost use Rattle.mdl_plan_runner.specs.Made.{IdleUnlessWent, IsGotOr, IsMade};
 
+use crate::Reply;
 use crate::got::{LockResult, Went};
 use crate::key_lists::may_write;
 use crate::names::{locks_of, table_of};
 use crate::player::Player;
-use crate::Reply;
 use crate::registers::Registers;
 use mdl_context::Request;
 use mdl_key::{Duration, Key, Mode, Namespace};
@@ -118,7 +118,13 @@ impl<S: LockSpace> Player<S> {
         let global = Key::global(self.alloc);
         let ticket = registers.named.first_ticket();
         let granted = registers.granted.take();
-        match self.raise_unless_granted(space, granted, ticket, table_of(statement, &global), mode) {
+        match self.raise_unless_granted(
+            space,
+            granted,
+            ticket,
+            table_of(statement, &global),
+            mode,
+        ) {
             LockResult::Had(ticket) => {
                 registers.hold_table(ticket);
                 Went::On

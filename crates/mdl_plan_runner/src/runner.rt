@@ -53,10 +53,10 @@ impl<S: LockSpace, T: Holds> Model for Runner<S, T> {
     ghost Value = { RunnerView };
 
     ghost view = { λ runner. record {
-        context = runner.player.context;
-        state = runner.player.state;
-        work = option_map (λ work. record { statement = T.shows work.statement; registers = work.registers; plan = work.plan.now; at = work.at; mark = work.mark }) runner.work;
-        cache = runner.player.cache;
+      context = runner.player.context;
+      state = runner.player.state;
+      work = option_map (λ work. record { statement = T.shows work.statement; registers = work.registers; plan = work.plan.now; at = work.at; mark = work.mark }) runner.work;
+      cache = runner.player.cache;
     } };
 
     ghost invariant = { λ runner. runner.work ≡ None → runner.player.context.wait ≡ None };

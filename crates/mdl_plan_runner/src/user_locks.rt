@@ -7,10 +7,10 @@ ghost use Rattle.mdl_plan_runner.specs.Attendance.{GoesOn, IsReady};
 ghost use Rattle.mdl_plan_runner.specs.Gets.{IsStep};
 ghost use Rattle.mdl_plan_runner.specs.Made.{IdleUnlessWent, IsMade, said};
 
+use crate::Reply;
 use crate::got::Went;
 use crate::names::table_of;
 use crate::player::Player;
-use crate::Reply;
 use crate::registers::Registers;
 use mdl_context::Request;
 use mdl_key::{Duration, Key, Mode};
@@ -33,7 +33,9 @@ impl<S: LockSpace> Player<S> {
         ensures idle { IdleUnlessWent result self.new }
     {
         let global = Key::global(self.alloc);
-        let lock = registers.named.first_key(table_of(statement, &global), &global);
+        let lock = registers
+            .named
+            .first_key(table_of(statement, &global), &global);
         match self.release_last(space, lock) {
             Ok(Some(held)) => registers.end_with(Reply::Number(held)),
             Ok(None) => registers.end_with(Reply::Null),

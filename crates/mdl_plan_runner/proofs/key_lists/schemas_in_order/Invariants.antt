@@ -1,6 +1,5 @@
 -- The keys so far are in their places.
 use Rattle.std.proofs.Common.{◌≡◌, drop, map}
-use Rattle.mdl_syntax.specs.Forms.{tables_of}
 use Rattle.mdl_rows.specs.KeyOrder.{placed_all, in_key_order}
 use Rattle.mdl_rows.specs.Statements.{schema_of}
 use Rattle.mdl_plan_runner.proofs.key_lists.schemas_in_order.Given as goal

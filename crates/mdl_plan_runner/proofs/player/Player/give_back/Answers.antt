@@ -1,9 +1,9 @@
 -- The reply is noted, or the statement ends.
-use Rattle.std.proofs.Common.{refl, ap, ◌∙◌, subst, true}
+use Rattle.std.proofs.Common.{refl, ap, ◌∙◌, subst}
 use Rattle.std.specs.Prelude.{get_or}
 use Rattle.mdl_key.specs.Keys.{KeyName, global_key}
 use Rattle.mdl_rows.specs.declared.reply.Reply.TheVariants as reply
-use Rattle.mdl_plans.specs.Steps.{first_key, table_of}
+use Rattle.mdl_plans.specs.Steps.{first_key}
 use Rattle.mdl_plans.specs.declared.step.Step.TheVariants as step
 use Rattle.mdl_plan_runner.specs.Acts.{giving_back}
 use Rattle.mdl_plan_runner.specs.Gets.{IsStep}

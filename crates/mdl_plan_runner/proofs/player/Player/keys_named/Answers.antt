@@ -1,5 +1,4 @@
 -- The statement says its keys, or the space tells them.
-use Rattle.mdl_plans.specs.Steps.{name_of}
 use Rattle.mdl_plan_runner.specs.Gets.{items_told}
 use Rattle.mdl_plan_runner.proofs.ActLemmas.{said-named, tables-named}
 use Rattle.mdl_plan_runner.proofs.player.Player.keys_named.Goals as goal

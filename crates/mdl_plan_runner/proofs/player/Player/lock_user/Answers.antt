@@ -1,31 +1,17 @@
 -- The lock is had, waited for, or missed.
 use Rattle.std.proofs.Common.{ℕ, Option, None, true, refl, sym, subst, ap, ◌∙◌}
 use Rattle.std.specs.Prelude.{get_or}
-use Rattle.mdl_key.specs.declared.mode.Mode.{Mode}
-use Rattle.mdl_key.specs.declared.mode.Mode.TheVariants.{IX, S, X}
+use Rattle.mdl_key.specs.declared.mode.Mode.TheVariants.{X}
 use Rattle.mdl_key.specs.declared.mode.Duration.TheVariants as for
-use Rattle.mdl_key.specs.Keys.{KeyName, commit_key, global_key}
-use Rattle.mdl_rows.specs.Rows.{Row, Acquire, Give, ◌>>◌, ◌>>=◌, set, upgrade}
-use Rattle.mdl_rows.specs.Playing.{play}
-use Rattle.mdl_rows.specs.Statements.{end_under}
-use Rattle.mdl_rows.specs.States.{with_commits_locked, with_writes_locked}
-use Rattle.mdl_rows.specs.declared.reply.Reply.{Reply}
+use Rattle.mdl_key.specs.Keys.{KeyName, global_key}
+use Rattle.mdl_rows.specs.Rows.{Acquire, Give}
 use Rattle.mdl_rows.specs.declared.reply.Reply.TheVariants as reply
-use Rattle.mdl_syntax.specs.declared.statement.Statement.{Statement}
-use Rattle.mdl_plans.specs.Registers.{holding, replying, taken}
-use Rattle.mdl_plans.specs.Registers as plan
-use Rattle.mdl_plans.specs.Steps.{commit_under, doing, first_key, table_of, table_ticket}
+use Rattle.mdl_plans.specs.Registers.{replying}
+use Rattle.mdl_plans.specs.Steps.{doing, first_key}
 use Rattle.mdl_plans.specs.declared.step.Step.TheVariants as step
-use Rattle.mdl_plan_runner.specs.declared.named.Named.TheVariants.{Table}
 use Rattle.mdl_plan_runner.specs.declared.got.Went.{Went}
 use Rattle.mdl_plan_runner.specs.Made.{IsMade}
-use Rattle.mdl_plan_runner.specs.declared.registers.Registers.{Registers}
-use Rattle.mdl_plan_runner.specs.Gets.{Comes}
 use Rattle.mdl_plan_runner.specs.Held.{keys_in, registers_of}
-use Rattle.mdl_plan_runner.specs.Players.{ExplicitLocks, PlayerView, player_of}
-use Rattle.mdl_plan_runner.proofs.CallLemmas.{comes-row}
-use Rattle.mdl_plan_runner.proofs.RowLemmas.{bind-assoc}
-use Rattle.mdl_plan_runner.proofs.RunLemmas.{comes-then}
 use Rattle.mdl_plan_runner.proofs.TakenLemmas.{got-key, made-ends, made-had, made-waits, on-kept}
 use Rattle.mdl_plan_runner.proofs.player.Player.lock_user.Goals as goal
 
@@ -36,9 +22,9 @@ returns-in-Had-clause-run g c =
     (λ rest. on-kept c.args.statement.now c.end_with.new.self (record c.args.registers.now { reply = reply.Number true; granted = None }) rest c.end_with.ensures.noted))
 
 pub returns-in-Waits-clause-run : goal.returns-in-Waits-clause-run
-returns-in-Waits-clause-run g c = 
+returns-in-Waits-clause-run g c =
     made-waits g.S.LockSpace c.args.statement.now c.args.registers.now (doing c.args.statement.now step.LockUser) (λ r. Acquire (record { key = first_key r; mode = X; duration = for.Explicit }) Give) (λ r ticket. Give (replying (reply.Number true) r)) (λ r. refl) (λ r ticket. refl) X c.args.space.now c.get_user_lock.new.space c.args.self.now c.get_user_lock.new.self _ c.in-Waits.key (ap (λ (t : Option ℕ). record c.args.registers.now { granted = t }) c.take-granted.ensures.after) (rw (c.in-Waits.is, c.take-granted.ensures.value) at (got-key g.S.LockSpace c.take-granted.result X for.Explicit c.args.space.now c.get_user_lock.new.space c.args.self.now c.get_user_lock.new.self c.get_user_lock.result c.first_key-lock.result.now (first_key (registers_of c.args.statement.now c.args.registers.now)) (c.first_key-lock.ensures ∙ ap (λ (t : KeyName). get_or (keys_in t c.args.registers.now.named) 0 global_key) c.table_of.ensures) c.get_user_lock.ensures.run))
 
 pub returns-clause-run : goal.returns-clause-run
-returns-clause-run g c = 
+returns-clause-run g c =
     made-ends g.S.LockSpace c.args.statement.now c.args.registers.now (doing c.args.statement.now step.LockUser) (λ r. Acquire (record { key = first_key r; mode = X; duration = for.Explicit }) Give) (λ r ticket. Give (replying (reply.Number true) r)) (λ r. refl) (λ r ticket. refl) X c.args.space.now c.get_user_lock.new.space c.args.self.now c.get_user_lock.new.self (registers_of c.args.statement.now c.args.registers.now) c.in-Ends.ending (rw (c.in-Ends.is, c.take-granted.ensures.value) at (got-key g.S.LockSpace c.take-granted.result X for.Explicit c.args.space.now c.get_user_lock.new.space c.args.self.now c.get_user_lock.new.self c.get_user_lock.result c.first_key-lock.result.now (first_key (registers_of c.args.statement.now c.args.registers.now)) (c.first_key-lock.ensures ∙ ap (λ (t : KeyName). get_or (keys_in t c.args.registers.now.named) 0 global_key) c.table_of.ensures) c.get_user_lock.ensures.run))

@@ -2,7 +2,7 @@
 use Rattle.std.proofs.Common.{ℕ, [], ◌∷◌, subst}
 use Rattle.mdl_rows.specs.Rows.{for_each}
 use Rattle.mdl_rows.specs.Statements.{can_change}
-use Rattle.mdl_plans.specs.Steps.{new_ticket, old_ticket}
+use Rattle.mdl_plans.specs.Steps.{new_ticket}
 use Rattle.mdl_plan_runner.specs.Gets.{IsStep}
 use Rattle.mdl_plan_runner.specs.Held.{registers_of}
 use Rattle.mdl_plan_runner.proofs.player.Player.names_may_change.Goals as goal

@@ -1,5 +1,5 @@
 -- The next table is shown, if it is among the locked ones.
-use Rattle.std.proofs.Common.{refl, sym}
+use Rattle.std.proofs.Common.{sym}
 use Rattle.mdl_plans.specs.Steps.{tables_of}
 use Rattle.mdl_plan_runner.proofs.AttendanceLemmas.{goes_on-then}
 use Rattle.mdl_plan_runner.proofs.ReadLemmas.{grown-smaller, held-missed, held-over, held-shown}

@@ -1,5 +1,5 @@
 -- The table is shown after the others, or the statement ends.
-use Rattle.std.proofs.Common.{◌≡◌, ◌+◌, ◌∙◌, List, None, ap, length, refl}
+use Rattle.std.proofs.Common.{◌+◌, ◌∙◌, List, None, ap, length, refl}
 use Rattle.mdl_rows.specs.declared.reply.TableShown.{TableShown}
 use Rattle.mdl_plan_runner.proofs.ReadLemmas.{shown-so}
 use Rattle.mdl_plan_runner.proofs.player.Player.show_more.Goals as goal

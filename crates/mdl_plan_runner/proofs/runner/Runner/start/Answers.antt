@@ -1,5 +1,5 @@
 -- The statement's plan is played from its first step on, and then the statement is ended, or it waits.
-use Rattle.std.proofs.Common.{◌≡◌, Bool, Ok, Some, ap, sym, ◌∙◌}
+use Rattle.std.proofs.Common.{Bool, Ok, Some, ap, sym, ◌∙◌}
 use Rattle.std.specs.Prelude.{is_some}
 use Rattle.mdl_syntax.specs.declared.statement.Statement.{Statement}
 use Rattle.mdl_rows.specs.Playing.{starting}
