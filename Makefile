@@ -74,7 +74,7 @@ try: script kit
 
 # Checks before the build what would otherwise fail after it: the subcommand exists, the script can be read, and its ending says what kind it is.
 script:
-	@case "$(SUBCOMMAND)" in replay | run | lock | matrix) ;; *) echo "there is no $(SUBCOMMAND): SUBCOMMAND is replay, run, lock or matrix" >&2; exit 1 ;; esac
+	@case "$(SUBCOMMAND)" in replay | explain | run | lock | matrix) ;; *) echo "there is no $(SUBCOMMAND): SUBCOMMAND is replay, explain, run, lock or matrix" >&2; exit 1 ;; esac
 	@{ test -r "$(SCRIPT)" && test ! -d "$(SCRIPT)"; } || { echo "$(SCRIPT) isn't there, or can't be read" >&2; exit 1; }
 	@case "$(origin SUBCOMMAND) $(SCRIPT)" in "command line "* | "file crates/mdlsim/stdin" | *.lock | *.replay | *.run) ;; \
 	*) echo "$(SCRIPT): a script ends with .lock, .replay or .run" >&2; exit 1 ;; esac

@@ -1,6 +1,6 @@
 """Tests mdlsim's command line: which run its words ask for, and what it reports for words that ask for none. Also gives it worked scripts, scripts as
 large as may be, lines that it has to refuse, and streams that fail. Checks that the completions of the shells have the words that its help
-lists.
+lists, and that the table of statements in docs/LANGUAGE.md has what it explains.
 
 Usage, at the top of the repository: python3 commands/check.py [PROGRAM]    the program that was built last, or another one
 """
@@ -13,6 +13,7 @@ import sys
 from devices import cases_of_mdlsim, wrong_devices
 from limits import wrong_limits
 from lines import wrong_lines
+from table import wrong_table
 from worked import wrong_scripts
 
 PROGRAM = "crates/mdlsim/out/mdlsim"
@@ -23,6 +24,9 @@ VERSION = HERE.with_name("VERSION").read_text().strip()
 WAITS = "1 CREATE TABLE t x\n1 BEGIN\n1 SELECT t\n2 DROP TABLE t\n1 COMMIT\n"
 ANSWERS = "1 1 OK\n2 1 OK\n3 1 OK test.t@1(x)\n4 2 WAIT TABLE test.t X\n5 1 OK\n4 2 OK\n"
 ALONE = "1 CREATE TABLE t x\n1 SELECT t\n"
+EXPLAINED = "line 1, session 1:\n  X of the user-level lock, until the session releases it; the reply is 1\n"
+TIMED_OUT = "line 3, session 1:\n  nothing is locked; if the session waits, its wait times out\n"
+NINE = " ".join(f"t{it}" for it in range(9))
 FINALS = "1 1 OK\n2 1 OK test.t@1(x)\nFINAL SCHEMA test@1\nFINAL TABLE test.t@1(x)\n"
 TAKEN = [
     *((f"lock{words}", "1 SR\n", 0, "1 GRANTED SR\n", "") for words in ("", " --")),
@@ -39,6 +43,18 @@ TAKEN = [
     # The other examples of docs/mdlsim.1.
     ("lock", "1 SRO\n2 SW\n1 RELEASE\n", 0, "1 GRANTED SRO\n2 WAITS SW\n1 RELEASED SRO\n2 GRANTED SW\n", ""),
     ("replay", "1 BEGIN\n0 BEGIN\n", 1, "", "line 2: BadSession\n"),
+    # A line to explain, in words or as one, or several lines; no words, and a line that is refused.
+    *((f"explain {line}", "0 BEGIN\n", 0, EXPLAINED, "") for line in ("1 GET_LOCK a", " 1 GET_LOCK a ", "1 GET_LOCK\ta")),
+    ("explain 1 GET_LOCK a\n# and\n1 TIMEOUT", "", 0, EXPLAINED + TIMED_OUT, ""),
+    *((f"explain{words}", "1 GET_LOCK a\n", 0, EXPLAINED, "") for words in ("", " --")),
+    ("explain", "", 0, "", ""),
+    ("explain ", "1 GET_LOCK a\n", 0, "", ""),
+    ("explain # 1", "", 0, "", ""),
+    ("explain 1", "", 1, "", "line 1: BadWord\n"),
+    ("explain BEGIN", "", 1, "", "line 1: BadSession\n"),
+    ("explain help", "", 1, "", "line 1: BadSession\n"),
+    (f"explain 1 SELECT {NINE}", "", 1, "", "line 1: BadWord\n"),
+    ("explain 1 GET_LOCK a b", "", 1, "", "line 1: BadWord\n"),
 ]
 
 # Ways to say how often a statement that waits looks again, and how many definitions a session keeps. The contract of `command` says which numbers are
@@ -108,7 +124,7 @@ def wrong_completions(program):
 def main(words):
     """Runs all checks, prints what is wrong, and returns the exit status."""
     program = words[0] if words else PROGRAM
-    parts = (wrong_rows, wrong_completions, wrong_scripts, wrong_limits, wrong_lines)
+    parts = (wrong_rows, wrong_completions, wrong_scripts, wrong_table, wrong_limits, wrong_lines)
     wrong = [*(found for part in parts for found in part(program)), *wrong_devices(program, cases_of_mdlsim)]
     for given, found in wrong:
         print(f"mdlsim {given}: {found}".replace("mdlsim mdlsim", "mdlsim"), file=sys.stderr)

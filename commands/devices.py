@@ -56,6 +56,9 @@ class Case:
 
 # ---- what the programs are run on
 
+# What is explained of a line.
+TIMED_OUT = b"line 1, session 1:\n  nothing is locked; if the session waits, its wait times out\n"
+
 # How often a line is repeated for a long answer.
 MANY = 20_000
 
@@ -86,6 +89,7 @@ def cases_of_mdlsim(program):
             b"1 1 OK\n2 1 OK test.t@1(x)\nFINAL SCHEMA test@1\nFINAL TABLE test.t@1(x)\n",
             b"1 SELECT t\n",
         ),
+        Case("explain", b"1 TIMEOUT\n", TIMED_OUT, b"1 TIMEOUT\n" * MANY, b"1 TIMEOUT 2\n", b"line 1: BadWord\n"),
         Case("matrix", None, matrices),
         Case("--version", None, version),
     ]

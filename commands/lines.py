@@ -39,13 +39,13 @@ STATEMENTS = [
 ]
 # Lines that are refused in scripts of one lock.
 LOCKS = [(it, "BadWord") for it in (b"1 BEGIN", b"1 X X", b"1 x", b"1 RELEASED", b"1 X\r\r", b"1 X\x00", b"1 IX S", b"1 SR # read")]
-SUBCOMMANDS = {"lock": LOCKS, "lock --scoped": LOCKS, "replay": STATEMENTS, "run": STATEMENTS}
+SUBCOMMANDS = {"lock": LOCKS, "lock --scoped": LOCKS, "replay": STATEMENTS, "run": STATEMENTS, "explain": STATEMENTS}
 
 # What such a line may end with, and what may follow it: the line is refused all the same.
 ENDS = [b"\n", b"", b"\r\n", b"\n1 BEGIN\n\x80\n"]
 
 # What is written if the only line is a comment.
-NOTHING = {"lock": b"", "lock --scoped": b"", "replay": b"", "run": b"FINAL SCHEMA test@1\n"}
+NOTHING = {"lock": b"", "lock --scoped": b"", "replay": b"", "run": b"FINAL SCHEMA test@1\n", "explain": b""}
 
 
 # Scripts whose lines end in several ways, or are about as long as a line may be, each with its answers or its refusal. A line has at most 4,096

@@ -2,12 +2,15 @@
 with four spaces, and an empty line ends a script. A script that is refused has only the refusal as an answer."""
 
 import pathlib
+import re
 import subprocess
 
 FOLDER = pathlib.Path(__file__).resolve().parent / "scripts"
-FILES = {"lock": "lock", "lock --scoped": "lock_scoped", "replay": "replay"}
+FILES = {"lock": "lock", "lock --scoped": "lock_scoped", "replay": "replay", "explain": "explain"}
 
 MARK = "    "
+
+REFUSAL = re.compile("line [0-9]+: ")
 
 
 def text_of(lines):
@@ -29,5 +32,5 @@ def wrong_scripts(program):
         for script, answers in scripts_of(subcommand):
             ran = subprocess.run([program, *subcommand.split(" ")], input=script, capture_output=True, text=True)
             found = ran.returncode, ran.stdout, ran.stderr
-            if found != ((1, "", answers) if answers.startswith("line ") else (0, answers, "")):
+            if found != ((1, "", answers) if REFUSAL.match(answers) else (0, answers, "")):
                 yield f"{subcommand} < {script!r}", found

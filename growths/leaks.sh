@@ -57,6 +57,9 @@ plays drop_schema.replay replay
 plays two_threads.run run
 plays two_threads.run run --cache 1
 plays queue.lock lock
+# commands/scripts/explain has what is explained of other lines.
+crates/mdlsim/out/mdlsim explain < examples/drop_schema.replay > "$made/explained"
+frees_all examples/drop_schema.replay "$made/explained" mdlsim explain
 plays read_lock.scoped.lock lock --scoped
 views deadlock why
 views sessions waits

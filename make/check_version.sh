@@ -85,6 +85,7 @@ number=$(echo "${version%-dev}" | awk -F . '{ print $1 * 10000 + $2 * 100 + $3 }
     has examples/rust/src/raw.rs "const VERSION: u32 = $number;"
     has examples/python/gaz_locks.py "VERSION = $number"
     has CITATION.cff "version: $version"
+    has README.md "The newest, $released,"
     for file in Cargo.toml Cargo.lock; do
         has "examples/rust/$file" "version = \"$version\""
     done

@@ -1,6 +1,7 @@
 #!/bin/sh
 # Gives the tree another version, in all places that make/check_version.sh looks at, and checks them. A version without -dev is that of a release: the
-# section [Unreleased] of CHANGELOG.md and the manual pages get it, with the date. One with -dev begins a section [Unreleased]. It commits and tags nothing.
+# section [Unreleased] of CHANGELOG.md and the manual pages get it, with the date, and README.md names it. One with -dev begins a section [Unreleased].
+# It commits and tags nothing.
 # Usage: sh make/set_version.sh VERSION [DATE]     as 0.6.0 2026-12-01, or 0.7.0-dev. The date is today if none is given
 cd "$(dirname "$0")/.." || exit 1
 new=$1
@@ -40,7 +41,7 @@ set_number() {
 
 set_log() {
     if [ "${new%-dev}" = "$new" ]; then
-        replace CHANGELOG.md '## [Unreleased]' "## [$new] - $date"
+        replace CHANGELOG.md '## [Unreleased]' "## [$new] - $date" && sed -i "s/The newest, [0-9.]*,/The newest, $new,/" README.md
     elif ! grep -q -x -F '## [Unreleased]' CHANGELOG.md; then
         awk '/^## \[/ && !begun { print "## [Unreleased]"; print ""; begun = 1 } { print }' CHANGELOG.md > CHANGELOG.new && mv CHANGELOG.new CHANGELOG.md
     fi

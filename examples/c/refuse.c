@@ -113,6 +113,15 @@ static void call_directly(void)
         wrong += code != (wanted);                                                                              \
     } while (0)
 
+/* Whether the context keeps a ticket of a table to read, which takes no memory to say. */
+static uint32_t may_read(struct gaz_one_space *space, uint16_t who, const char *table)
+{
+    unsigned before = allocations;
+    uint32_t code = gaz_one_holds(space, who, TABLE(table), GAZ_SR);
+    wrong += allocations != before;
+    return code;
+}
+
 /* The wait for a stronger mode is over. If memory ran out for it, the ticket is upgraded without a wait. */
 static uint32_t raise_ticket(struct gaz_one_space *space, uint16_t who, uint64_t ticket, uint8_t mode)
 {
@@ -151,7 +160,8 @@ static void call_in_contexts(void)
     EXPECT_KEPT(1, GAZ_DONE, gaz_one_acquire(&space, 1, TABLE("items"), GAZ_SW, GAZ_STATEMENT, &ticket));
     EXPECT_KEPT(2, GAZ_DONE, gaz_one_try_acquire(&space, 2, TABLE("orders"), GAZ_SR, GAZ_TRANSACTION, &ticket));
     EXPECT_KEPT(2, GAZ_WOULD_WAIT, gaz_one_try_acquire(&space, 2, TABLE("orders"), GAZ_SU, GAZ_TRANSACTION, &ticket));
-    EXPECT_KEPT(2, GAZ_DONE, gaz_one_holds(&space, 2, TABLE("orders"), GAZ_SR));
+    EXPECT_KEPT(2, GAZ_DONE, may_read(&space, 2, "orders"));
+    EXPECT_KEPT(2, GAZ_NOT_KEPT, may_read(&space, 2, "items"));
     /* The first session waits for a stronger mode. So the second one, which waits for it, is the victim of a deadlock. */
     EXPECT_KEPT(1, GAZ_WAITING, gaz_one_context_upgrade(&space, 1, writer, GAZ_X, &ticket));
     EXPECT_KEPT(2, GAZ_WAITING, gaz_one_acquire(&space, 2, TABLE("items"), GAZ_X, GAZ_TRANSACTION, &ticket));

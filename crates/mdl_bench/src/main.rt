@@ -36,7 +36,7 @@ use failure::Failure;
 use play::{Task, time_task};
 use reads::Reading;
 use row::time_rows;
-use rows::{LOWER, ONE_THREAD, THREADS};
+use rows::{LOWER, ONE_THREAD, READS_AND_WAITS, THREADS};
 use session::Stock;
 use std::alloc::Global;
 use std::process::ExitCode;
@@ -95,7 +95,8 @@ fn time_one_thread<R: Threads + Wait + Sync + Clock + CpuClock + Print>(
     alloc: Global,
     quick: bool,
 ) -> Result<(), Failure> {
-    time_rows(rt, alloc, quick, ONE_THREAD)
+    time_rows(rt, alloc, quick, ONE_THREAD)?;
+    time_rows(rt, alloc, quick, READS_AND_WAITS)
 }
 
 fn time_threads<R: Threads + Wait + Sync + Clock + CpuClock + Print>(

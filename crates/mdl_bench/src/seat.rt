@@ -4,7 +4,7 @@ ghost use Rattle.mdl_key.specs.KeyLookups.{is_known};
 ghost use Rattle.mdl_shared.specs.SessionViews.{data_of};
 
 use crate::failure::Failure;
-use mdl_calls::{Place, SpaceError, TicketId};
+use mdl_calls::{Held, Place, SpaceError, TicketId};
 use mdl_key::{Key, Mode};
 use mdl_shared::{CloseError, Fast, Released, Session};
 use std::sync::Wait;
@@ -54,7 +54,10 @@ pub fn give_up<R>(session: &mut Session<R>, id: TicketId) -> bool
 pub fn close<R: Wait, W: Wait + Drop>(rt: &R, mut session: Session<W>) {
     for _ in rt.forever() {
         match session.close() {
-            Ok(_pass) => return,
+            Ok(pass) => {
+                drop(pass);
+                return;
+            }
             Err(CloseError::HoldsTickets(open)) => {
                 session = open;
                 let _ = give_all_up(&mut session);
@@ -73,8 +76,15 @@ fn give_all_up<R: Wait>(session: &mut Session<R>) -> Result<(), SpaceError> {
     if session.settle_timeout().is_ok() {
         session.end_wait()?;
     }
-    for held in session.held()? {
-        session.release(held.id)?;
+    let held = session.held()?;
+    let released = release_all(session, &held);
+    drop(held);
+    released
+}
+
+fn release_all<R: Wait>(session: &mut Session<R>, held: &[Held]) -> Result<(), SpaceError> {
+    for ticket in held {
+        session.release(ticket.id)?;
     }
     Ok(())
 }

@@ -20,7 +20,9 @@ pub fn time_taking<R: Clock>(
     let Ok(mut space) = CoreSpace::new(alloc, MOST_PLACES, MOST_SESSIONS) else {
         return Err(Failure::Unmade);
     };
-    timed(rt, alloc, &mut space, tickets, turns)
+    let spent = timed(rt, alloc, &mut space, tickets, turns);
+    drop(space);
+    spent
 }
 
 // The same in a space where no session has anything yet.

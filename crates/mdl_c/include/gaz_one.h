@@ -155,7 +155,7 @@ uint32_t gaz_one_acquire(struct gaz_one_space *space, uint16_t who, uint8_t name
 uint32_t gaz_one_try_acquire(struct gaz_one_space *space, uint16_t who, uint8_t namespace_, const uint8_t *schema, size_t schema_length,
                              const uint8_t *table, size_t table_length, uint8_t mode, uint8_t duration, uint64_t *ticket);
 
-/* Whether the context keeps a ticket of the key in a mode at least as strong: DONE, or NOT_KEPT. It takes memory for the names alone. */
+/* Whether the context keeps a ticket of the key in a mode at least as strong: DONE, or NOT_KEPT. It takes no memory. */
 uint32_t gaz_one_holds(struct gaz_one_space *space, uint16_t who, uint8_t namespace_, const uint8_t *schema, size_t schema_length,
                        const uint8_t *table, size_t table_length, uint8_t mode);
 
@@ -176,7 +176,7 @@ uint32_t gaz_one_context_downgrade(struct gaz_one_space *space, uint16_t who, ui
 /* Releases a kept ticket: DONE. */
 uint32_t gaz_one_context_release(struct gaz_one_space *space, uint16_t who, uint64_t ticket);
 
-/* Releases all tickets of a key, of all durations: DONE. */
+/* Releases all tickets of a key, of all durations: DONE. It takes memory for the names alone. */
 uint32_t gaz_one_release_name(struct gaz_one_space *space, uint16_t who, uint8_t namespace_, const uint8_t *schema, size_t schema_length,
                           const uint8_t *table, size_t table_length);
 

@@ -5,7 +5,7 @@ ghost use Rattle.mdl_context.specs.Requests.{acquiring, trying};
 ghost use Rattle.mdl_context.specs.Upgrades.{downgrading, upgrading};
 ghost use Rattle.mdl_context.specs.Waits.{giving_up_wait, resuming};
 ghost use Rattle.mdl_c_parts.specs.Codes.{duration_at, mode_at, namespace_at, no_duration, no_mode};
-ghost use Rattle.mdl_c_parts.specs.Names.{Given, NamedIn};
+ghost use Rattle.mdl_c_parts.specs.Names.{Given, NamedIn, ReadIn};
 ghost use Rattle.mdl_c_calls.specs.ContextCodes.{acquire_code, acquire_told, done_code, kept_code, mark_in_context, mark_told, resume_code, resume_told, tried_code, tried_told};
 ghost use Rattle.mdl_c_calls.specs.Exports.{Replies, Tells};
 ghost use Rattle.mdl_c_calls.specs.Managers.{context_fault};
@@ -74,7 +74,7 @@ pub extern "C" fn gaz_one_try_acquire(
     )
 }
 
-/// Returns whether the session's context keeps a ticket of a key in a mode at least as strong.
+/// Returns whether the session's context keeps a ticket of a key in a mode at least as strong. Takes no memory.
 #[unsafe(no_mangle)]
 pub extern "C" fn gaz_one_holds(
     alloc: Global,
@@ -86,7 +86,7 @@ pub extern "C" fn gaz_one_holds(
     mode: u8,
 ) -> u32
     ensures { Given no_mode (mode_at mode)
-        (λ mode. NamedIn (namespace_at namespace) schema.now table.now
+        (λ mode. ReadIn (namespace_at namespace) schema.now table.now
         (λ key. Replies context_fault who (TellsKept who key mode) kept_code Untold space.old.handle.manager result space.new.handle.manager)
         (λ wrong. Tells wrong space.old.handle.manager result space.new.handle.manager))
         (λ wrong. Tells wrong space.old.handle.manager result space.new.handle.manager) }

@@ -1,6 +1,7 @@
 pub mod Boxes
 pub mod ContextLemmas
 pub mod ExportLemmas
+pub mod KeptLemmas
 pub mod LeaveLemmas
 pub mod ManagerLemmas
 pub mod SettledLemmas

@@ -4,6 +4,7 @@ use Rattle.std.specs.Prelude.{◌≡◌, ℕ, zero, suc, ◌-◌, Bool, false, n
 use Rattle.std.specs.List.{range_with_len}
 use Rattle.std.specs.Option.{option_and_then, option_map, option_map_or, option_or, unwrap_or}
 use Rattle.mdl_key.specs.declared.mode.Duration.{Duration}
+use Rattle.mdl_key.specs.Keys.{KeyName, key_eq}
 use Rattle.mdl_book.specs.declared.book_view.BookView.{BookView}
 use Rattle.mdl_book.specs.declared.ticket.Ticket.{Ticket}
 use Rattle.mdl_calls.specs.declared.answers.Settled.{Settled}
@@ -31,6 +32,10 @@ ShowsSpace (Some manager) code after Kept Shown = (after ≡ Some manager) × Sh
 -- the book of a place, if the place has a key
 abbrev pub keyed_book : ℕ → Core → Option BookView
 keyed_book place space = if has_key place space then Some (book_at place space) else None
+
+-- whether a key is at a place
+abbrev pub is_place_of : KeyName → ℕ → Core → Bool
+is_place_of key place space = option_map_or (λ (book : BookView). key_eq key book.key) (keyed_book place space) false
 
 -- a call shows the lock of a place. If the place has no key, it returns the code for that and writes nothing
 abbrev pub ShowsLock : ℕ → Option Managed → ℕ → Option Managed → Type 0 → (Managed → BookView → Type 0) → Type 0

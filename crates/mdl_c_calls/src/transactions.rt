@@ -5,7 +5,7 @@ ghost use Rattle.mdl_context.specs.Requests.{acquiring, trying};
 ghost use Rattle.mdl_context.specs.Upgrades.{downgrading, upgrading};
 ghost use Rattle.mdl_context.specs.Waits.{giving_up_wait, resuming};
 ghost use Rattle.mdl_c_parts.specs.Codes.{duration_at, mode_at, namespace_at, no_duration, no_mode};
-ghost use Rattle.mdl_c_parts.specs.Names.{Given, NamedIn};
+ghost use Rattle.mdl_c_parts.specs.Names.{Given, NamedIn, ReadIn};
 ghost use Rattle.mdl_c_calls.specs.ContextCodes.{acquire_code, acquire_told, done_code, kept_code, mark_in_context, mark_told, resume_code, resume_told, tried_code, tried_told};
 ghost use Rattle.mdl_c_calls.specs.Exports.{Replies, Tells};
 ghost use Rattle.mdl_c_calls.specs.Managers.{context_fault};
@@ -17,7 +17,7 @@ use crate::context_codes::{
 use crate::handle::OneSpace;
 use crate::mark::Mark;
 use crate::ticket_change::TicketChange;
-use mdl_c_parts::{CLOSED, NO_DURATION, NO_MODE, duration_of, key_of, mode_of};
+use mdl_c_parts::{CLOSED, KeyNames, NO_DURATION, NO_MODE, duration_of, key_of, mode_of};
 use mdl_key::{Duration, Key, Mode};
 use std::alloc::Global;
 
@@ -142,7 +142,7 @@ pub fn gaz_one_try_acquire(
 }
 
 // Returns whether the session's context keeps a ticket of a key in a mode at least as strong.
-fn holds(alloc: Global, space: &mut OneSpace, who: u16, key: &Key, mode: Mode) -> u32
+fn holds(alloc: Global, space: &mut OneSpace, who: u16, key: &KeyNames<'_>, mode: Mode) -> u32
     ensures { Replies context_fault who (TellsKept who key.now mode) kept_code Untold space.old.handle.manager result space.new.handle.manager }
 {
     let Some(mut manager) = space.take(alloc) else {
@@ -153,7 +153,7 @@ fn holds(alloc: Global, space: &mut OneSpace, who: u16, key: &Key, mode: Mode) -
     code
 }
 
-/// Returns whether the session's context keeps a ticket of a key in a mode at least as strong.
+/// Returns whether the session's context keeps a ticket of a key in a mode at least as strong. Takes no memory.
 pub fn gaz_one_holds(
     alloc: Global,
     space: &mut OneSpace,
@@ -164,7 +164,7 @@ pub fn gaz_one_holds(
     mode: u8,
 ) -> u32
     ensures { Given no_mode (mode_at mode)
-        (λ mode. NamedIn (namespace_at namespace) schema.now table.now
+        (λ mode. ReadIn (namespace_at namespace) schema.now table.now
         (λ key. Replies context_fault who (TellsKept who key mode) kept_code Untold space.old.handle.manager result space.new.handle.manager)
         (λ wrong. Tells wrong space.old.handle.manager result space.new.handle.manager))
         (λ wrong. Tells wrong space.old.handle.manager result space.new.handle.manager) }
@@ -172,7 +172,7 @@ pub fn gaz_one_holds(
     let Some(mode) = mode_of(mode) else {
         return NO_MODE;
     };
-    match key_of(alloc, namespace, schema, table) {
+    match KeyNames::read(namespace, schema, table) {
         Ok(key) => holds(alloc, space, who, &key, mode),
         Err(code) => code,
     }

@@ -1,5 +1,5 @@
 -- Keys made of names that C passes as bytes, and what its numbers name.
-use Rattle.std.specs.Prelude.{◌≡◌, ◌⊎◌, ℕ, List, Option, Some, None}
+use Rattle.std.specs.Prelude.{◌≡◌, ◌⊎◌, ℕ, List, Option, Some, None, MatchOption}
 use Rattle.std.specs.Str.{IsUtf8}
 use Rattle.mdl_key.specs.declared.key_error.Utf8NameError.{Utf8NameError}
 use Rattle.mdl_key.specs.declared.namespace.Namespace.{Namespace}
@@ -25,12 +25,27 @@ IsNameCode are_text fault code = ((are_text → ⊥) × (code ≡ bad_byte)) ⊎
 abbrev pub MakesKey : Type 0 → Option Utf8NameError → Type 0 → (ℕ → Type 0) → Type 0
 MakesKey are_text fault Done Refused = (are_text × (fault ≡ None) × Done) ⊎ ((code : ℕ) × IsNameCode are_text fault code × Refused code)
 
--- `Done` holds of the key in this namespace with these names, or `Refused` of a code. Only the names that keys of the namespace have are read
+-- names name a key and `Done` holds, or they name none and `Refused` holds of the code: one of them isn't UTF-8, or else they have this fault
+abbrev pub NamesKey : Type 0 → Option Utf8NameError → Type 0 → (ℕ → Type 0) → Type 0
+NamesKey are_text fault Done Refused =
+    (are_text × MatchOption fault Done (λ why. Refused (name_code why))) ⊎ ((are_text → ⊥) × Refused bad_byte)
+
+-- `Done` holds of the key in this namespace with these names, or `Refused` of a code. Only the names that keys of the namespace have are read, and `Key`
+-- says whether they give a key
+abbrev pub KeyIn : (Type 0 → Option Utf8NameError → Type 0 → (ℕ → Type 0) → Type 0)
+    → Option Namespace → List ℕ → List ℕ → (KeyName → Type 0) → (ℕ → Type 0) → Type 0
+KeyIn Key None schema table Done Refused = Refused no_namespace
+KeyIn Key (Some Global) schema table Done Refused = Done global_key
+KeyIn Key (Some Schema) schema table Done Refused = Key (IsUtf8 schema) (utf8_name_fault schema) (Done (schema_key schema)) Refused
+KeyIn Key (Some Table) schema table Done Refused =
+    Key (IsUtf8 schema × IsUtf8 table) (utf8_table_fault schema table) (Done (table_key schema table)) Refused
+KeyIn Key (Some Commit) schema table Done Refused = Done commit_key
+KeyIn Key (Some UserLevelLock) schema table Done Refused = Key (IsUtf8 schema) (utf8_name_fault schema) (Done (user_lock_key schema)) Refused
+
+-- the key is made, which takes memory
 abbrev pub NamedIn : Option Namespace → List ℕ → List ℕ → (KeyName → Type 0) → (ℕ → Type 0) → Type 0
-NamedIn None schema table Done Refused = Refused no_namespace
-NamedIn (Some Global) schema table Done Refused = Done global_key
-NamedIn (Some Schema) schema table Done Refused = MakesKey (IsUtf8 schema) (utf8_name_fault schema) (Done (schema_key schema)) Refused
-NamedIn (Some Table) schema table Done Refused =
-    MakesKey (IsUtf8 schema × IsUtf8 table) (utf8_table_fault schema table) (Done (table_key schema table)) Refused
-NamedIn (Some Commit) schema table Done Refused = Done commit_key
-NamedIn (Some UserLevelLock) schema table Done Refused = MakesKey (IsUtf8 schema) (utf8_name_fault schema) (Done (user_lock_key schema)) Refused
+NamedIn = KeyIn MakesKey
+
+-- the names are read where they lie
+abbrev pub ReadIn : Option Namespace → List ℕ → List ℕ → (KeyName → Type 0) → (ℕ → Type 0) → Type 0
+ReadIn = KeyIn NamesKey

@@ -1,11 +1,12 @@
 //! The parts of the library for C that touch no lock space: the numbers of codes, modes, durations and namespaces (`specs/Codes`), the codes of a space's
-//! answers and what is written with them (`specs/Answers`), keys made of bytes (`specs/Names`), rows of tickets (`specs/Rows`), texts of codes
+//! answers and what is written with them (`specs/Answers`), keys made of bytes, and keys that stay bytes (`specs/Names`), rows of tickets (`specs/Rows`), texts of codes
 //! (`specs/Messages`), and the parts of a box, of which a handle is made.
 #![tactic(auto)]
 
 mod answers;
 mod clashes;
 mod codes;
+mod key_names;
 mod messages;
 mod names;
 mod parts;
@@ -22,6 +23,7 @@ pub use codes::{
     VICTIM, WAITING, WOULD_WAIT, cause_code, duration_of, mode_of, name_code, namespace_of,
     new_code, settled_code,
 };
+pub use key_names::KeyNames;
 pub use messages::tell_message;
 pub use names::{key_of, schema_of, table_of, user_lock_of};
 pub use parts::Parts;

@@ -1,5 +1,5 @@
 //! What a program of the locks does and prints, once the words of its command line are read: it executes a script over one lock,
-//! plays a script of statements, in one thread or with a thread for each session, or prints the matrices.
+//! plays a script of statements, in one thread or with a thread for each session, explains what its lines lock, or prints the matrices.
 //!
 //! [`run_asked`] does what was asked for, reports a fault on the stream of errors, and returns the exit status.
 //!

@@ -6,6 +6,7 @@ ghost use Rattle.mdl_lines.specs.declared.fault.Fault.{Fault};
 ghost use Rattle.mdl_program.specs.Runs.{EndsAs, IsRun, end_status};
 
 use crate::threads::play_on_threads;
+use mdl_explain::explain;
 use mdl_key::Kind;
 use mdl_lines::{Fault, report};
 use mdl_lock::{lock_run, matrix_run};
@@ -28,6 +29,8 @@ pub enum Run {
     Matrix,
     /// Play a script of statements.
     Replay,
+    /// Explain the lines of a script of statements.
+    Explain,
     /// Play a script of statements, each session on a thread of its own. The numbers are the patience, and how many definitions
     /// each session's own cache keeps at most.
     Threads(u32, u16),
@@ -72,6 +75,7 @@ fn end_of<T: Threads + Wait + Sync, R: Read, W: Write>(
         Run::Lock(kind) => lock_run(alloc, kind, input, output),
         Run::Matrix => matrix_run(alloc, output),
         Run::Replay => replay(alloc, input, output),
+        Run::Explain => explain(alloc, input, output),
         Run::Threads(patience, cache) => {
             play_on_threads(rt, alloc, patience, cache, input, output)
         }

@@ -1,4 +1,5 @@
 //! Examples of crates, which the heads of their `src/lib.rt` show, too.
+mod explain;
 mod lock;
 mod plans;
 mod program;

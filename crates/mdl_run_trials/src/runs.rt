@@ -17,6 +17,7 @@ pub(crate) enum Words {
     Scoped,
     Matrix,
     Replay,
+    Explain,
     OnThreads,
     Refused,
 }
@@ -30,6 +31,7 @@ fn asked_by(words: Words) -> Result<Run, &'static str>
         Words::Scoped => Ok(Run::Lock(Kind::Scoped)),
         Words::Matrix => Ok(Run::Matrix),
         Words::Replay => Ok(Run::Replay),
+        Words::Explain => Ok(Run::Explain),
         Words::OnThreads => Ok(Run::Threads(5, 1)),
         Words::Refused => Err("requires a subcommand\n"),
     }

@@ -2,7 +2,7 @@
 use crate::checks::is_right;
 use crate::fakes::{GONE, SOUND};
 use crate::matrices::MATRICES;
-use crate::runs::Words::{Lock, Matrix, OnThreads, Refused, Replay, Scoped};
+use crate::runs::Words::{Explain, Lock, Matrix, OnThreads, Refused, Replay, Scoped};
 use crate::runs::{Row, goes_so};
 use mdl_program::lack_words;
 use std::alloc::Global;
@@ -13,6 +13,9 @@ use std::mem::drop;
 const STATEMENTS: &str = "1 BEGIN\n2 COMMIT\n";
 
 const BAD_WORD: &str = "line 2: BadWord\n";
+
+const ROLLBACK: &str =
+    "line 1, session 1:\n  an open transaction ends, and its locks are released\n";
 
 // A run that refuses its script or its words writes no answers. Input is only read if the words ask for a script.
 const ROWS: &[Row<'static>] = &[
@@ -41,6 +44,8 @@ const ROWS: &[Row<'static>] = &[
     (Replay, STATEMENTS, SOUND, SOUND, 0, "1 1 OK\n2 2 OK\n", ""),
     (Replay, "", SOUND, SOUND, 0, "", ""),
     (Replay, "1 BEGIN\n1 SR\n", SOUND, GONE, 1, "", BAD_WORD),
+    (Explain, "1 ROLLBACK\n", SOUND, SOUND, 0, ROLLBACK, ""),
+    (Explain, "1 BEGIN\n1 SR\n", SOUND, GONE, 1, "", BAD_WORD),
     (
         OnThreads,
         STATEMENTS,

@@ -1,5 +1,5 @@
 -- Which words the command of `mdlsim` takes, by clap's account of a parse.
-use Rattle.std.proofs.Common.{◌≡◌, ◌∙◌, ◌⊎◌, ◌&&◌, inl, inr, ap, refl, sym, subst, ap₂, true, false, true≢false, Bool, ℕ, List, [], ◌∷◌, ◌++◌, Option, Some, is_some, drop, codes, append-nil}
+use Rattle.std.proofs.Common.{◌≡◌, ◌∙◌, ◌⊎◌, ◌&&◌, inl, inr, ap, refl, sym, subst, ap₂, true, false, true≢false, ℕ, List, [], ◌∷◌, ◌++◌, Some, is_some, drop, codes, append-nil}
 use Rattle.std.specs.List.{list_all}
 use Rattle.std.specs.Str.{bytes_eq}
 use Rattle.clap.specs.Walk.{Names, Text, Walk, finished, nothing_held, rows_after, walked}
@@ -8,14 +8,14 @@ use Rattle.clap.specs.Takes.{default_passes, entered_passes, is_valid, level_pas
 use Rattle.clap.specs.Faults.{built_fault, defaults_fault, fault_of, is_simple_and_free, turn_fault, walk_fault}
 use Rattle.mdl_key.specs.declared.namespace.Kind.TheVariants.{Scoped, Object}
 use Rattle.mdl_program.specs.declared.program.Run.{Run}
-use Rattle.mdl_program.specs.declared.program.Run.TheVariants.{Lock, Matrix, Replay, Threads}
+use Rattle.mdl_program.specs.declared.program.Run.TheVariants.{Lock, Matrix, Replay, Explain, Threads}
 use Rattle.mdl_words.proofs.Levels.{IsEnd, start}
 use Rattle.mdl_words.proofs.OptionWords.{level}
 use Rattle.mdl_words.proofs.ShortOptions.{dash, neither, refuses}
 use Rattle.mdl_words.proofs.Subcommands.{below, first_turn, name_met, plain_names, stopped_at, top_passes, walk_is}
 use Rattle.mdlsim.specs.CommandLine.{AreWordsOf, AskForThreads, Asks, mdlsim}
 use Rattle.clap.proofs.OnLiterals.{clap_on_literals}
-use Rattle.mdlsim.proofs.Options.{lock, matrix, replay, run, run_options}
+use Rattle.mdlsim.proofs.Options.{lock, matrix, replay, explain, run, run_options}
 use Rattle.mdlsim.proofs.OptionsFound.{options_found}
 use Rattle.mdlsim.proofs.OptionsGiven.{lock_asks, plain_asks, run_asks, scoped}
 
@@ -23,7 +23,7 @@ abbrev pub top : Shape
 top = (built mdlsim).top
 
 abbrev all_names : List Text
-all_names = lock ∷ matrix ∷ replay ∷ run ∷ codes "help" ∷ []
+all_names = lock ∷ matrix ∷ replay ∷ explain ∷ run ∷ codes "help" ∷ []
 
 abbrev pub names : Names
 names = plain_names all_names
@@ -63,6 +63,8 @@ taken_from words Matrix (inl e) = ap (λ rest. takes mdlsim (codes "mdlsim" ∷ 
 taken_from words Matrix (inr (front, is, e)) = ap (λ rest. takes mdlsim (codes "mdlsim" ∷ rest)) (is ∙ ap (λ xs. xs ++ dash ∷ []) e)
 taken_from words Replay (inl e) = ap (λ rest. takes mdlsim (codes "mdlsim" ∷ rest)) e
 taken_from words Replay (inr (front, is, e)) = ap (λ rest. takes mdlsim (codes "mdlsim" ∷ rest)) (is ∙ ap (λ xs. xs ++ dash ∷ []) e)
+taken_from words Explain (inl e) = ap (λ rest. takes mdlsim (codes "mdlsim" ∷ rest)) e
+taken_from words Explain (inr (front, is, e)) = ap (λ rest. takes mdlsim (codes "mdlsim" ∷ rest)) (is ∙ ap (λ xs. xs ++ dash ∷ []) e)
 taken_from words (Threads p c) asked =
     let (options, end, asks, ends, is) = threads_words words p c asked in
     ap (λ rest. takes mdlsim (codes "mdlsim" ∷ rest)) is ∙ run_taken (options ++ end) (options_found p c options end asks ends).0
@@ -102,6 +104,10 @@ replay_first : (rest : List Text) → built_fault (built mdlsim) nothing_held (r
 unfolding walked
 replay_first rest e = plain_first Replay replay rest refl (plain_asks replay rest (below (built mdlsim) replay refl rest e))
 
+explain_first : (rest : List Text) → built_fault (built mdlsim) nothing_held (explain ∷ rest) ≡ [] → (run : Run) × Asks (explain ∷ rest) run
+unfolding walked
+explain_first rest e = plain_first Explain explain rest refl (plain_asks explain rest (below (built mdlsim) explain refl rest e))
+
 run_first : (rest : List Text) → built_fault (built mdlsim) nothing_held (run ∷ rest) ≡ [] → (run : Run) × Asks (codes "run" ∷ rest) run
 unfolding walked
 run_first rest e =
@@ -112,15 +118,16 @@ run_first rest e =
     ]
 
 -- a first word that names a subcommand
-named_first : (w met : Text) (rest : List Text) → met ≡ w → bytes_eq met (codes "help") ≡ false → (w ≡ lock) ⊎ ((w ≡ matrix) ⊎ ((w ≡ replay) ⊎ ((w ≡ run) ⊎ ((w ≡ codes "help") ⊎ ⊥))))
+named_first : (w met : Text) (rest : List Text) → met ≡ w → bytes_eq met (codes "help") ≡ false → (w ≡ lock) ⊎ ((w ≡ matrix) ⊎ ((w ≡ replay) ⊎ ((w ≡ explain) ⊎ ((w ≡ run) ⊎ ((w ≡ codes "help") ⊎ ⊥)))))
     → built_fault (built mdlsim) nothing_held (w ∷ rest) ≡ [] → (run : Run) × Asks (w ∷ rest) run
 named_first w met rest same other within e = elim within [
   | inl is ↦ subst (λ x. (run : Run) × Asks (x ∷ rest) run) (sym is) (lock_first rest (free lock is))
   | inr (inl is) ↦ subst (λ x. (run : Run) × Asks (x ∷ rest) run) (sym is) (matrix_first rest (free matrix is))
   | inr (inr (inl is)) ↦ subst (λ x. (run : Run) × Asks (x ∷ rest) run) (sym is) (replay_first rest (free replay is))
-  | inr (inr (inr (inl is))) ↦ subst (λ x. (run : Run) × Asks (x ∷ rest) run) (sym is) (run_first rest (free run is))
-  | inr (inr (inr (inr (inl is)))) ↦ absurd (true≢false (sym (ap (λ x. bytes_eq x (codes "help")) (same ∙ is)) ∙ other))
-  | inr (inr (inr (inr (inr never)))) ↦ absurd never
+  | inr (inr (inr (inl is))) ↦ subst (λ x. (run : Run) × Asks (x ∷ rest) run) (sym is) (explain_first rest (free explain is))
+  | inr (inr (inr (inr (inl is)))) ↦ subst (λ x. (run : Run) × Asks (x ∷ rest) run) (sym is) (run_first rest (free run is))
+  | inr (inr (inr (inr (inr (inl is))))) ↦ absurd (true≢false (sym (ap (λ x. bytes_eq x (codes "help")) (same ∙ is)) ∙ other))
+  | inr (inr (inr (inr (inr (inr never))))) ↦ absurd never
 ]
   where
     free : (name : Text) → w ≡ name → built_fault (built mdlsim) nothing_held (name ∷ rest) ≡ []

@@ -11,14 +11,14 @@ use Rattle.clap.specs.declared.parser.matches.ArgMatches.TheViews.{out-ArgMatche
 use Rattle.mdl_key.specs.declared.namespace.Kind.{Kind}
 use Rattle.mdl_key.specs.declared.namespace.Kind.TheVariants.{Scoped, Object}
 use Rattle.mdl_program.specs.declared.program.Run.{Run}
-use Rattle.mdl_program.specs.declared.program.Run.TheVariants.{Lock, Matrix, Replay, Threads}
+use Rattle.mdl_program.specs.declared.program.Run.TheVariants.{Lock, Matrix, Replay, Explain, Threads}
 use Rattle.mdlsim.specs.CommandLine.{Asks, Finds, HasNumber, NumberOption, WritesNumber, cache_option, mdlsim, patience_option}
 use Rattle.clap.proofs.OnLiterals.{clap_on_literals}
 use Rattle.clap.proofs.WalkLemmas.{one_text-rows}
 use Rattle.mdl_words.proofs.ShortOptions.{dash}
 use Rattle.mdl_words.proofs.Subcommands.{name_kept}
 use Rattle.mdlsim.proofs.CommandWords.{run_entered, threads_words}
-use Rattle.mdlsim.proofs.Options.{lock, matrix, replay, run as run_name}
+use Rattle.mdlsim.proofs.Options.{lock, matrix, replay, explain, run as run_name}
 use Rattle.mdlsim.proofs.OptionsFound.{options_found}
 
 -- of a command with the shape of `mdlsim`
@@ -32,6 +32,7 @@ abbrev subcommand_of_run : Run → Text
 subcommand_of_run (Lock kind) = lock
 subcommand_of_run Matrix = matrix
 subcommand_of_run Replay = replay
+subcommand_of_run Explain = explain
 subcommand_of_run (Threads p c) = run_name
 
 -- the name and the rows of the subcommand that the words name
@@ -51,6 +52,8 @@ name_found words Matrix (inl e) = ap named_by e
 name_found words Matrix (inr (front, is, e)) = ap named_by (is ∙ ap (λ xs. xs ++ dash ∷ []) e)
 name_found words Replay (inl e) = ap named_by e
 name_found words Replay (inr (front, is, e)) = ap named_by (is ∙ ap (λ xs. xs ++ dash ∷ []) e)
+name_found words Explain (inl e) = ap named_by e
+name_found words Explain (inr (front, is, e)) = ap named_by (is ∙ ap (λ xs. xs ++ dash ∷ []) e)
 name_found words (Threads p c) asked =
     let (options, end, asks, ends, is) = threads_words words p c asked in
     ap named_by is ∙ ap (option_map (λ (p : Text × List Row). p.0)) (run_entered (options ++ end))
@@ -93,6 +96,10 @@ is_lock Replay m options kind finds name rows scoped object = absurd (other (nam
   where
     other : Some lock ≡ Some replay → ⊥
     other e = cc
+is_lock Explain m options kind finds name rows scoped object = absurd (other (name ∙ named Explain m finds))
+  where
+    other : Some lock ≡ Some explain → ⊥
+    other e = cc
 is_lock (Threads p c) m options kind finds name rows scoped object = absurd (other (name ∙ named (Threads p c) m finds))
   where
     other : Some lock ≡ Some run_name → ⊥
@@ -125,11 +132,15 @@ is_threads Replay m options finds name rows = absurd (other (name ∙ named Repl
   where
     other : Some run_name ≡ Some replay → ⊥
     other e = cc
+is_threads Explain m options finds name rows = absurd (other (name ∙ named Explain m finds))
+  where
+    other : Some run_name ≡ Some explain → ⊥
+    other e = cc
 
 -- the run without options that a subcommand asks for
 abbrev plain_run : Option Text → Option Run
 plain_run None = None
-plain_run (Some name) = if bytes_eq name matrix then Some Matrix else (if bytes_eq name replay then Some Replay else None)
+plain_run (Some name) = if bytes_eq name matrix then Some Matrix else (if bytes_eq name replay then Some Replay else (if bytes_eq name explain then Some Explain else None))
 
 -- the subcommand of a run without options asks for that run alone
 pub is_plain : (asked run : Run) (m : ArgMatches) → plain_run (Some (subcommand_of_run asked)) ≡ Some asked → Finds run m
@@ -140,11 +151,13 @@ is_plain asked run m plain is name = same run (sym plain ∙ ap plain_run (name 
     same (Lock kind) e = absurd (cc)
     same Matrix e = ap (λ o. unwrap_or o asked) e
     same Replay e = ap (λ o. unwrap_or o asked) e
+    same Explain e = ap (λ o. unwrap_or o asked) e
     same (Threads p c) e = absurd (cc)
 
 pub is_one : (run : Run) (m : ArgMatches) → Finds run m
-    → (subcommand_name_of m ≡ Some lock) ⊎ ((subcommand_name_of m ≡ Some matrix) ⊎ ((subcommand_name_of m ≡ Some replay) ⊎ (subcommand_name_of m ≡ Some run_name)))
+    → (subcommand_name_of m ≡ Some lock) ⊎ ((subcommand_name_of m ≡ Some matrix) ⊎ ((subcommand_name_of m ≡ Some replay) ⊎ ((subcommand_name_of m ≡ Some explain) ⊎ (subcommand_name_of m ≡ Some run_name))))
 is_one (Lock kind) m is = inl (named (Lock kind) m is)
 is_one Matrix m is = inr (inl (named Matrix m is))
 is_one Replay m is = inr (inr (inl (named Replay m is)))
-is_one (Threads p c) m is = inr (inr (inr (named (Threads p c) m is)))
+is_one Explain m is = inr (inr (inr (inl (named Explain m is))))
+is_one (Threads p c) m is = inr (inr (inr (inr (named (Threads p c) m is))))

@@ -22,6 +22,9 @@ matrix = codes "matrix"
 abbrev pub replay : Text
 replay = codes "replay"
 
+abbrev pub explain : Text
+explain = codes "explain"
+
 abbrev pub run : Text
 run = codes "run"
 

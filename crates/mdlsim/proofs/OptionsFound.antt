@@ -1,5 +1,5 @@
 -- Words that ask for a patience and a cache are taken, and both are found in them.
-use Rattle.std.proofs.Common.{◌≡◌, ◌∙◌, ◌⊎◌, inl, inr, ap, refl, sym, subst, true, false, ℕ, List, [], ◌∷◌, ◌++◌, Option, Some, None}
+use Rattle.std.proofs.Common.{◌≡◌, ◌∙◌, ◌⊎◌, inl, inr, ap, refl, sym, subst, true, false, ℕ, List, [], ◌++◌, Option, Some, None}
 use Rattle.std.specs.Prelude.{fold, unwrap_or}
 use Rattle.clap.specs.Lexer.{without_minus}
 use Rattle.clap.specs.Walk.{Row, Text, has_row, nothing_held, one_of, rows_after, with_default}

@@ -1,5 +1,5 @@
 -- What the words behind a subcommand of `mdlsim` ask for, from the uses of options that they are.
-use Rattle.std.proofs.Common.{arith, ◌<◌, ◌≡◌, ◌∙◌, ◌⊎◌, inl, inr, ap, refl, sym, subst, codes, true, false, Bool, ℕ, ℤ, pos, negsuc, List, [], ◌∷◌, ◌++◌, Some, None, append-nil, append_assoc, if◌then◌else◌, ◌==◌}
+use Rattle.std.proofs.Common.{arith, ◌<◌, ◌≡◌, ◌∙◌, ◌⊎◌, inl, inr, ap, refl, sym, subst, codes, true, false, Bool, ℕ, ℤ, pos, negsuc, List, [], ◌∷◌, ◌++◌, Some, None, append-nil, if◌then◌else◌, ◌==◌}
 use Rattle.std.specs.Prelude.{◌≤ℤ◌, nat_lt, slice_get}
 use Rattle.std.specs.Char.{digit_value}
 use Rattle.std.specs.Str.{chars}
@@ -18,7 +18,7 @@ use Rattle.mdl_words.specs.Words.{GiveText}
 use Rattle.mdl_words.proofs.Levels.{IsEnd}
 use Rattle.mdl_words.proofs.OptionWords.{AreUses, IsNoBundle, Spells, Use, fault_used, level, level_asks, rows_used}
 use Rattle.mdl_words.proofs.ShortOptions.{dash, neither, refuses}
-use Rattle.mdlsim.specs.CommandLine.{AskForThreads, NumberOption, WritesNumber}
+use Rattle.mdlsim.specs.CommandLine.{AskForThreads, WritesNumber}
 use Rattle.mdlsim.proofs.Options.{Which, id_of, lock, lock_options, no_options, number_of, option_of, run, run_options}
 use Rattle.mdlsim.proofs.Options.Which.{Patience, Cache}
 

@@ -1,5 +1,6 @@
 -- What the words of a command line ask for.
-use Rattle.std.specs.Prelude.{◌≡◌, ◌⊎◌, ◌++◌, ℕ, pos, List, [], ◌∷◌, Some, codes, true}
+use Rattle.std.specs.Prelude.{◌≡◌, ◌⊎◌, ◌++◌, ◌==◌, ◌&&◌, ℕ, Bool, false, not, pos, List, [], ◌∷◌, Option, Some, None, codes, flat_map, true, if◌then◌else◌}
+use Rattle.std.specs.Str.{bytes_eq}
 use Rattle.std.specs.Str.Parse.{signed_digits_value}
 use Rattle.clap.specs.Lexer.{without_minus}
 use Rattle.clap.specs.Matches.{found_of, one_text}
@@ -11,7 +12,7 @@ use Rattle.clap.specs.declared.parser.matches.ArgMatches.{ArgMatches}
 use Rattle.mdl_defs.specs.Caches.{most_kept}
 use Rattle.mdl_key.specs.declared.namespace.Kind.TheVariants.{Scoped, Object}
 use Rattle.mdl_program.specs.declared.program.Run.{Run}
-use Rattle.mdl_program.specs.declared.program.Run.TheVariants.{Lock, Matrix, Replay, Threads}
+use Rattle.mdl_program.specs.declared.program.Run.TheVariants.{Lock, Matrix, Replay, Explain, Threads}
 use Rattle.mdl_words.specs.Words.{GiveText, flag_rule, value_rule}
 
 -- an option of `run` with a number: its name, the least number and the most, and the text of the number if none is given
@@ -50,6 +51,7 @@ AreWordsOf (Lock Object) words = words ≡ codes "lock" ∷ []
 AreWordsOf (Lock Scoped) words = words ≡ codes "lock" ∷ codes "--scoped" ∷ []
 AreWordsOf Matrix words = words ≡ codes "matrix" ∷ []
 AreWordsOf Replay words = words ≡ codes "replay" ∷ []
+AreWordsOf Explain words = words ≡ codes "explain" ∷ []
 AreWordsOf (Threads patience cache) words = (options : List (List ℕ)) × (words ≡ codes "run" ∷ options) × AskForThreads patience cache options
 
 -- the words after the program's name ask for this run. A closing `--` says only that the options end
@@ -57,13 +59,32 @@ abbrev pub Asks : List (List ℕ) → Run → Type 0
 Asks words run = AreWordsOf run words
     ⊎ ((front : List (List ℕ)) × (words ≡ front ++ codes "--" ∷ []) × AreWordsOf run front)
 
+-- whether a word begins as an option does
+abbrev pub begins_with_dash : List ℕ → Bool
+begins_with_dash [] = false
+begins_with_dash (byte ∷ bytes) = byte == 45
+
+-- whether words begin a line to explain: there is one, and it doesn't begin as an option does
+abbrev pub begins_line : List (List ℕ) → Bool
+begins_line [] = false
+begins_line (first ∷ rest) = not (begins_with_dash first)
+
+-- the words of a line to explain, if the words after the program's name have them: those behind `explain`
+abbrev pub line_to_explain : List (List ℕ) → Option (List (List ℕ))
+line_to_explain [] = None
+line_to_explain (command ∷ line) = if bytes_eq command (codes "explain") && begins_line line then Some line else None
+
+-- the text of such a line: its words, a blank behind each
+abbrev pub line_text : List (List ℕ) → List ℕ
+line_text words = flat_map (λ word. word ++ codes " ") words
+
 -- the words after the program's name ask for its version
 abbrev pub AskForVersion : List (List ℕ) → Type 0
 AskForVersion words = words ≡ codes "--version" ∷ []
 
 -- the line that is printed for the version
 abbrev pub version_line : List ℕ
-version_line = codes "mdlsim 0.6.0-dev" ++ 10 ∷ []
+version_line = codes "mdlsim 0.6.0" ++ 10 ∷ []
 
 -- what a parse reads of the flag `--scoped`, and of `lock`, which has it
 abbrev pub scoped_flag : Rule
@@ -83,9 +104,11 @@ run_subcommand = with_rule (with_rule (new_app (codes "run")) (number_rule patie
 abbrev pub without_subcommands : App
 without_subcommands = on_top (λ s. record s { subcommand_required = true }) (new_app (codes "mdlsim"))
 
--- the program with the subcommand `lock`, and with `matrix` and `replay`, which have no options
+-- the program with the subcommand `lock`, and with `matrix`, `replay` and `explain`, which have no options
 abbrev pub with_scripts : App
-with_scripts = with_subcommand (with_subcommand (with_subcommand without_subcommands lock_subcommand.top) (new_shape (codes "matrix"))) (new_shape (codes "replay"))
+with_scripts =
+    with_subcommand (with_subcommand (with_subcommand (with_subcommand without_subcommands lock_subcommand.top) (new_shape (codes "matrix"))) (new_shape (codes "replay")))
+    (new_shape (codes "explain"))
 
 -- what a parse reads of the program
 abbrev pub mdlsim : App

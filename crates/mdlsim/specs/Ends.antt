@@ -1,10 +1,11 @@
 -- How the program ends, and what it has written then.
-use Rattle.std.specs.Prelude.{◌≡◌, ◌⊎◌, ℕ, List, Option, Result, IsOk}
+use Rattle.std.specs.Prelude.{◌≡◌, ◌⊎◌, ℕ, List, Option, Some, Result, IsOk}
 use Rattle.std.specs.Io.KnownBytes.{Keeps}
 use Rattle.mdl_lines.specs.declared.fault.Fault.{Fault}
 use Rattle.mdl_program.specs.declared.program.Run.{Run}
+use Rattle.mdl_program.specs.declared.program.Run.TheVariants.{Explain}
 use Rattle.mdl_program.specs.Runs.{EndsAs, end_status}
-use Rattle.mdlsim.specs.CommandLine.{Asks}
+use Rattle.mdlsim.specs.CommandLine.{Asks, line_text}
 
 -- the words after the program's name ask for no run
 abbrev pub AskForNoRun : List (List ℕ) → Type 0
@@ -17,3 +18,8 @@ EndsByWords words status input old new errors told =
     ((run : Run) × (end : Result (Unit {0}) Fault) × Asks words run × EndsAs run input old new end × (status ≡ end_status end) × (IsOk end → Keeps errors told))
     ⊎ (((status ≡ 2) × AskForNoRun words × Keeps old new)
     ⊎ ((status ≡ 3) × Keeps old new))
+
+-- how the program may end for a line to explain, and what it has written then: its explanation, if memory doesn't run out and no write fails
+abbrev pub EndsForLine : List (List ℕ) → ℕ → Option (List ℕ) → Option (List ℕ) → Option (List ℕ) → Option (List ℕ) → Type 0
+EndsForLine line status old new errors told =
+    (end : Result (Unit {0}) Fault) × EndsAs Explain (Some (line_text line)) old new end × (status ≡ end_status end) × (IsOk end → Keeps errors told)

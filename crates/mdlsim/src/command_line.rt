@@ -39,6 +39,7 @@ fn run_found(matches: &ArgMatches) -> Run
         Some(("lock", options)) => Run::Lock(kind_found(options)),
         Some(("matrix", _)) => Run::Matrix,
         Some(("replay", _)) => Run::Replay,
+        Some(("explain", _)) => Run::Explain,
         Some(("run", options)) => Run::Threads(patience_found(options), cache_found(options)),
         _ => unreachable!(),
     }
@@ -88,11 +89,15 @@ fn program<'a>(alloc: Global) -> Result<Command<'a>, AllocError>
     let replay = Command::new(alloc, "replay").about(
         "Plays a script of statements read from standard input",
     );
+    let explain = Command::new(alloc, "explain").about(
+        "Says what LINE locks, in which order, and how it can fail; without LINE it reads lines from standard input",
+    );
     Command::new(alloc, "mdlsim")
         .subcommand_required(true)
         .subcommand(lock_subcommand(alloc)?)?
         .subcommand(matrix)?
         .subcommand(replay)?
+        .subcommand(explain)?
         .subcommand(run_subcommand(alloc)?)
 }
 

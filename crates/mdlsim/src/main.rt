@@ -1,10 +1,11 @@
 //! `mdlsim` runs scripts of metadata locks: `mdlsim lock` reads a script of one lock from standard input, and prints the answers
 //! of the lock. `mdlsim replay` reads a script of statements, and prints what becomes of each. `mdlsim run` plays such a script
-//! with each session on a thread of its own. `mdlsim matrix` prints which modes clash, and which wait behind which, and
-//! `mdlsim --version` prints the version.
+//! with each session on a thread of its own, and `mdlsim explain` says what its lines lock. `mdlsim matrix` prints which modes
+//! clash, and which wait behind which, and `mdlsim --version` prints the version.
 #![tactic(auto)]
 
 mod command_line;
+mod explaining;
 mod program;
 
 use mdl_program::lack_words;

@@ -1,12 +1,13 @@
 //! What the program does: over the words of its command line, and the streams that it is given.
-ghost use Rattle.std.specs.Prelude.{◌≡◌, ◌↔◌, drop, false, map, Result, IfErr, IsOk, IsOkUnless, IsTrue, OnOk};
+ghost use Rattle.std.specs.Prelude.{◌≡◌, ◌↔◌, drop, false, map, None, Result, IfErr, IfSome, IsOk, IsOkUnless, IsTrue, OnOk};
 ghost use Rattle.std.specs.Io.KnownBytes.{Keeps};
 ghost use Rattle.clap.specs.Words.{kind_of};
 ghost use Rattle.mdl_program.specs.Runs.{Writes, end_status};
-ghost use Rattle.mdlsim.specs.CommandLine.{AskForVersion, version_line};
-ghost use Rattle.mdlsim.specs.Ends.{EndsByWords};
+ghost use Rattle.mdlsim.specs.CommandLine.{AskForVersion, line_to_explain, version_line};
+ghost use Rattle.mdlsim.specs.Ends.{EndsByWords, EndsForLine};
 
 use crate::command_line::{Run, asks_for_version, command};
+use crate::explaining::{explain_line, line_to_explain};
 use clap::Error;
 use clap::error::ErrorKind;
 use mdl_lines::{Fault, report, write_all};
@@ -18,7 +19,7 @@ use std::sync::Wait;
 use std::thread::Threads;
 
 // What `--version` prints.
-const VERSION_LINE: &[u8] = b"mdlsim 0.6.0-dev\n";
+const VERSION_LINE: &[u8] = b"mdlsim 0.6.0\n";
 
 /// Does what the words of a command line ask for, and returns the exit status: 2 if they ask neither for a run nor for the
 /// version, and 3 if memory runs out while they are read.
@@ -35,12 +36,19 @@ pub fn run_words<T: Threads + Wait + Sync, S: AsStr, R: Read, W: Write, E: Write
         × IsOkUnless end Fault.Write × Writes end (W.contents output.old) (W.contents output.new) version_line
         × (result ≡ end_status end)
         × (IsOk end → Keeps (E.contents errors.old) (E.contents errors.new)) }
+    // The words have a line to explain.
+    ensures explained { IfSome (line_to_explain (drop 1 (map S.text words.entry.now))) (λ line.
+        EndsForLine line result (W.contents output.old) (W.contents output.new) (E.contents errors.old) (E.contents errors.new)) }
     ensures others { (AskForVersion (drop 1 (map S.text words.entry.now)) → ⊥)
+        → line_to_explain (drop 1 (map S.text words.entry.now)) ≡ None
         → EndsByWords (drop 1 (map S.text words.entry.now)) result (R.remaining input.old) (W.contents output.old) (W.contents output.new)
         (E.contents errors.old) (E.contents errors.new) }
 {
     if asks_for_version(words) {
         return print_version(output, errors);
+    }
+    if let Some(line) = line_to_explain(words) {
+        return explain_line(rt, alloc, line, output, errors);
     }
     let asked = command(alloc, words);
     if lacks_memory(&asked) {

@@ -148,7 +148,7 @@ AskForVersion words = words ≡ codes "--version" ∷ []
 
 -- the line that is printed for the version
 abbrev pub version_line : List ℕ
-version_line = codes "mdlview 0.6.0-dev" ++ 10 ∷ []
+version_line = codes "mdlview 0.6.0" ++ 10 ∷ []
 
 -- ---- what a parse reads
 

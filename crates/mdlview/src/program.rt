@@ -28,7 +28,7 @@ use std::convert::AsStr;
 use std::io::{Read, Write};
 
 // What `--version` prints.
-const VERSION_LINE: &[u8] = b"mdlview 0.6.0-dev\n";
+const VERSION_LINE: &[u8] = b"mdlview 0.6.0\n";
 
 // The exit status if a line of the input is refused.
 const REFUSED: u8 = 1;

@@ -25,6 +25,10 @@ pub const ONE_THREAD: &[Row] = &[
             Goal(4, 0, 120),
         ],
     ),
+];
+
+/// More of them: reads, waits, and what takes long.
+pub const READS_AND_WAITS: &[Row] = &[
     Row(READS, &[Goal(0, 1, 300), Goal(2, 3, 300), Goal(4, 5, 100)]),
     Row(WAITS, &[Goal(2, 5, 420), Goal(3, 5, 420), Goal(4, 5, 420)]),
     Row(PLACES, &[]),

@@ -3,22 +3,26 @@ ghost use Rattle.std.specs.Prelude.{◌≡◌, ◌⊎◌, ◌==◌, not, length,
 ghost use Rattle.mdl_space.specs.CoreMembers.{core_space};
 ghost use Rattle.mdl_calls.specs.Words.{HasNothing, Runs};
 ghost use Rattle.mdl_core.specs.Words.{SpeaksFor, locks_at};
-ghost use Rattle.mdl_context.specs.Contexts.{Attends, LeavesOthers};
+ghost use Rattle.mdl_context.specs.Contexts.{Attends, LeavesOthers, holds_as_strong};
 ghost use Rattle.mdl_context.specs.Releases.{releasing_name};
 ghost use Rattle.mdl_context.specs.Requests.{acquiring, trying};
 ghost use Rattle.mdl_context.specs.Upgrades.{upgrading};
 ghost use Rattle.mdl_context.specs.Waits.{giving_up_wait, resuming};
+ghost use Rattle.mdl_c_calls.specs.Listings.{is_place_of};
 ghost use Rattle.mdl_c_calls.specs.Managers.{context_fault, direct_fault, seat_of, Asks};
 ghost use Rattle.mdl_c_calls.specs.Transactions.{begin_fault, changing_tickets, ending_from, new_context, with_seat, EndsContext, Marks, RunsFor, TellsKept, UnpinsAll};
 ghost use Rattle.mdl_c_calls.specs.declared.seat.Seat.TheVariants.{Kept};
 
 use super::ServedSpace;
+use super::lists::book_at;
 use crate::seat::Seat;
 use crate::ticket_change::TicketChange;
 use crate::unserved::Unserved;
+use mdl_c_parts::KeyNames;
 use mdl_context::{Acquire, Context, ContextError, Mark, Request, Resume, Tried};
 use mdl_key::{Duration, Key, Mode};
-use mdl_space::{CoreSpace, LockSpace, TicketId};
+use mdl_space::{CoreSpace, LockSpace, Place, TicketId};
+use mdl_system::covers;
 use std::alloc::Global;
 
 impl ServedSpace {
@@ -113,14 +117,14 @@ impl ServedSpace {
         ))
     }
 
-    /// Returns whether the session's context keeps a ticket of a key in a mode at least as strong.
-    pub fn holds(&mut self, who: u16, key: &Key, mode: Mode) -> Result<bool, Unserved>
+    /// Returns whether the session's context keeps a ticket of a key in a mode at least as strong. Takes no memory.
+    pub fn holds(&mut self, who: u16, key: &KeyNames<'_>, mode: Mode) -> Result<bool, Unserved>
         ensures { Asks (context_fault (seat_of who self.old)) (λ is_kept. TellsKept who key.now mode is_kept self.old self.new) result self.old self.new }
     {
         let index = self.index_of(who)?;
         match &self.seats[index] {
             Seat::Direct => Err(Unserved::NoContext),
-            Seat::Kept(context) => Ok(context.holds(key, mode)),
+            Seat::Kept(context) => Ok(keeps(&self.space, context, key, mode)),
         }
     }
 
@@ -201,6 +205,28 @@ impl ServedSpace {
             Seat::Direct => Err(Unserved::NoContext),
             Seat::Kept(context) => Ok(context.savepoint()),
         }
+    }
+}
+
+// Whether a context keeps a ticket of a key in a mode at least as strong. The key is compared with those at the places of its tickets.
+fn keeps(space: &CoreSpace, context: &Context<CoreSpace>, key: &KeyNames<'_>, mode: Mode) -> bool
+    requires { Attends core_space space.now context.now }
+    ensures { result ≡ holds_as_strong key.now mode context.now }
+{
+    if !key.kind().has_mode(mode) {
+        return false;
+    }
+    let tickets = context.kept();
+    tickets.iter().any(|held| covers(held.mode, mode) && is_at(space, held.place, key))
+}
+
+// Whether a key is at a place.
+fn is_at(space: &CoreSpace, place: Place, key: &KeyNames<'_>) -> bool
+    ensures { result ≡ is_place_of key.now place space.now }
+{
+    match book_at(space, place) {
+        Some(book) => key.are_of(book.key()),
+        None => false,
     }
 }
 

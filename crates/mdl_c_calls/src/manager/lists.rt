@@ -75,10 +75,7 @@ impl ServedSpace {
     pub fn book(&self, place: Place) -> Option<&Book>
         ensures { option_copied result ≡ keyed_book place self.now.space }
     {
-        if place == 0 {
-            return None;
-        }
-        self.books().get(usize::from(place) - 1)
+        book_at(&self.space, place)
     }
 
     /// Writes as many tickets of a place's lock as there is room for, the granted ones first. Returns the number of all, if the place has a key.
@@ -153,6 +150,16 @@ impl ServedSpace {
             Err(_) => UNKEPT,
         }
     }
+}
+
+// The book of a place, if the place has a key.
+pub(super) fn book_at(space: &CoreSpace, place: Place) -> Option<&Book>
+    ensures { option_copied result ≡ keyed_book place space.now }
+{
+    if place == 0 {
+        return None;
+    }
+    space.books().get(usize::from(place) - 1)
 }
 
 // Writes a session at an index of the room, if there is one.

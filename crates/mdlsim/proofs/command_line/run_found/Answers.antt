@@ -1,6 +1,6 @@
 -- What is found names the run's subcommand, and says of `--scoped` whether it was there, and what `--patience` and `--cache` have.
 use Rattle.std.proofs.Common.{◌∙◌, ap₂, refl, rules, inl, inr}
-use Rattle.mdl_program.specs.declared.program.Run.TheVariants.{Matrix, Replay, Threads}
+use Rattle.mdl_program.specs.declared.program.Run.TheVariants.{Matrix, Replay, Explain, Threads}
 use Rattle.mdlsim.proofs.FoundRuns.{is_lock, is_one, is_plain, is_threads}
 use Rattle.mdlsim.proofs.command_line.run_found.Goals as goal
 use Rattle.mdlsim.proofs.command_line.run_found.Goals.{in_default-via-in-Some+in_default, in_default-via-in_default}
@@ -13,7 +13,9 @@ unreachable-requires c = elim (is_one c.requires.0 c.args.matches.now c.requires
       elim c.in_default.branch [ in_default-via-in-Some+in_default w ↦ search rules | in_default-via-in_default w ↦ search rules ]
   | inr (inr (inl name)) ↦ let found = c.subcommand.ensures.name ∙ name in
       elim c.in_default.branch [ in_default-via-in-Some+in_default w ↦ search rules | in_default-via-in_default w ↦ search rules ]
-  | inr (inr (inr name)) ↦ let found = c.subcommand.ensures.name ∙ name in
+  | inr (inr (inr (inl name))) ↦ let found = c.subcommand.ensures.name ∙ name in
+      elim c.in_default.branch [ in_default-via-in-Some+in_default w ↦ search rules | in_default-via-in_default w ↦ search rules ]
+  | inr (inr (inr (inr name))) ↦ let found = c.subcommand.ensures.name ∙ name in
       elim c.in_default.branch [ in_default-via-in-Some+in_default w ↦ search rules | in_default-via-in_default w ↦ search rules ]
 ]
 
@@ -26,6 +28,9 @@ returns-in-Some-matrix-default c run is = is_plain Matrix run c.args.matches.now
 
 pub returns-in-Some-replay-default : goal.returns-in-Some-replay-default
 returns-in-Some-replay-default c run is = is_plain Replay run c.args.matches.now refl is (search rules)
+
+pub returns-in-Some-explain-default : goal.returns-in-Some-explain-default
+returns-in-Some-explain-default c run is = is_plain Explain run c.args.matches.now refl is (search rules)
 
 pub patience_found-requires : goal.patience_found-requires
 patience_found-requires c =

@@ -1,0 +1,3 @@
+pub mod Explanations
+pub mod Laws
+pub mod Phrases
