@@ -1,7 +1,7 @@
 -- The keys whose places a context knows: by their indexes, one more, and some forgotten.
 use Rattle.std.proofs.Common.{◌≡◌, ◌∙◌, ◌⊎◌, inl, inr, ℕ, zero, suc, ◌<◌, Bool, true, false, List, [], ◌∷◌, ◌++◌, ◌+◌, length, take, get_or, position, map, filter, find, Option, Some, None, refl, sym, ap, subst, arith, rules}
 use Rattle.std.specs.Prelude.{◌&&◌, ◌||◌, ◌==◌, not, All, slice_get, unwrap_or, if◌then◌else◌}
-use Rattle.std.specs.List.{list_any}
+use Rattle.std.specs.List.{Contains, list_any, remove}
 use Rattle.std.specs.Map.{keys_of, lookup}
 use Rattle.std.specs.Option.{option_and_then, option_map, option_map_or}
 use Rattle.std.specs.Cmp.{IsEquivalence}
@@ -22,8 +22,9 @@ use Rattle.mdl_context.specs.Contexts.{is_of_user_locks, is_user_lock, place_kno
 use Rattle.mdl_context.specs.Holdings.{IsIndexOf, is_kept_at, needs_place, numbers_among}
 use Rattle.mdl_context.specs.Indexes.{Index}
 use Rattle.mdl_context.specs.KnownKeys.{AreIndexes, AreKnownOnce, AreMet, KeepsKeys, is_dropped, known_key, known_keys, place_met}
+use Rattle.mdl_context.specs.Spares.{HasOneKey}
 
-abbrev Entry : Type 0
+abbrev pub Entry : Type 0
 Entry = KeyName × ℕ
 
 -- what is so of all is so of the first and of the others
@@ -391,9 +392,241 @@ kept-front met less order last known are same told =
       ),
     )
 
+-- ---- the one at a place forgotten
+
+-- whether a place is among others
+abbrev is_among : ℕ → List ℕ → Bool
+is_among place places = list_any (λ (p : ℕ). p == place) places
+
+same-place : (p q : ℕ) → (p == q) ≡ true → p ≡ q
+same-place p q same = grind (arith, nat_tests)
+
+-- a place occurs at most once
+abbrev IsOnce : ℕ → List ℕ → Type 0
+IsOnce place [] = Unit {0}
+IsOnce place (p ∷ ps) = ((p == place) ≡ true → is_among place ps ≡ false) × IsOnce place ps
+
+-- an element by its index
+has-at : {X : Type 0} (xs : List X) (i : ℕ) (x : X) → slice_get xs i ≡ Some x → Contains xs x
+has-at [] i x here = absurd (cc)
+has-at (y ∷ ys) zero x here = (0, omega arith, cc)
+has-at (y ∷ ys) (suc i) x here = let later = has-at ys i x here in (suc later.0, omega (arith, later.1), later.2)
+
+-- an element of the rest
+has-later : {X : Type 0} (y : X) (xs : List X) (x : X) → Contains xs x → Contains (y ∷ xs) x
+has-later y xs x (i, inside, is) = (suc i, omega (arith, inside), is)
+
+-- a known key has a place
+key-there : (known : List Entry) (key : KeyName) (place : ℕ) → Contains known (key, place) → place_known key known ≡ None → ⊥
+key-there [] key place (i, inside, is) none = absurd (omega (arith, inside))
+key-there (e ∷ es) key place (zero, inside, is) none =
+    let apart = key-apart key e es none in
+    let same : key_eq key e.0 ≡ true = (key-Decides key e.0).1 (sym (ap (λ (x : Entry). x.0) is)) in
+    let never : true ≡ false = sym same ∙ apart.0 in
+    cc
+key-there (e ∷ es) key place (suc i, inside, is) none = key-there es key place (i, omega (arith, inside), is) (key-apart key e es none).1
+
+-- a place that is known is that of a key
+place-there : (known : List Entry) (place : ℕ) → is_among place (map (λ (e : Entry). e.1) known) ≡ true → (key : KeyName) × Contains known (key, place)
+place-there [] place among = absurd (cc)
+place-there (e ∷ es) place among = by (e.1 == place) refl (place-there es place) where
+  by : (at : Bool) → (e.1 == place) ≡ at → (is_among place (map (λ (x : Entry). x.1) es) ≡ true → (key : KeyName) × Contains es (key, place))
+      → (key : KeyName) × Contains (e ∷ es) (key, place)
+  by true at more = (e.0, (0, omega arith, ap (λ (p : ℕ). (e.0, p)) (same-place e.1 place at)))
+  by false apart more = let later = more (rw apart at among) in (later.0, has-later e es (later.0, place) later.1)
+
+-- where one key is known at a place, and each key once, the place occurs at most once
+once-there : (known : List Entry) (place : ℕ) → AreKnownOnce known → HasOneKey place known → IsOnce place (map (λ (e : Entry). e.1) known)
+once-there [] place once one = tt
+once-there (e ∷ es) place once one = (
+  λ at. by at (is_among place (map (λ (x : Entry). x.1) es)) refl,
+  once-there es place once.1 (λ key other here there. one key other (has-later e es (key, place) here) (has-later e es (other, place) there)),
+) where
+  by : (e.1 == place) ≡ true → (among : Bool) → is_among place (map (λ (x : Entry). x.1) es) ≡ among → is_among place (map (λ (x : Entry). x.1) es) ≡ false
+  by at false is = is
+  by at true is =
+      let later = place-there es place is in
+      let same : e.0 ≡ later.0 = one e.0 later.0 (0, omega arith, ap (λ (p : ℕ). (e.0, p)) (same-place e.1 place at)) (has-later e es (later.0, place) later.1) in
+      absurd (key-there es later.0 place later.1 (subst (λ (k : KeyName). place_known k es ≡ None) same once.0))
+
+-- so it is all that is left of the places
+none-there : (places : List ℕ) (place : ℕ) → is_among place places ≡ false → filter (λ p. p == place) places ≡ []
+none-there [] place none = refl
+none-there (p ∷ ps) place none = by (p == place) refl (none-there ps place) where
+  by : (at : Bool) → (p == place) ≡ at → (is_among place ps ≡ false → filter (λ x. x == place) ps ≡ []) → filter (λ x. x == place) (p ∷ ps) ≡ []
+  by true at more = absurd (let never = rw at at none in cc)
+  by false apart more = rw apart (more (rw apart at none))
+
+one-there : (places : List ℕ) (i place : ℕ) → slice_get places i ≡ Some place → IsOnce place places → filter (λ p. p == place) places ≡ place ∷ []
+one-there [] i place here once = absurd (cc)
+one-there (p ∷ ps) zero place here once =
+    let at : (p == place) ≡ true = grind (arith, nat_tests, here) in
+    let is : p ≡ place = same-place p place at in
+    rw (at, none-there ps place (once.0 at)) (ap (λ (x : ℕ). x ∷ []) is)
+one-there (p ∷ ps) (suc i) place here once = by (p == place) refl (one-there ps i place here once.1) where
+  among : (qs : List ℕ) (j : ℕ) → slice_get qs j ≡ Some place → is_among place qs ≡ true
+  among [] j there = absurd (cc)
+  among (q ∷ qs) zero there = grind (arith, nat_tests, there)
+  among (q ∷ qs) (suc j) there = grind (arith, nat_tests, among qs j there)
+
+  by : (at : Bool) → (p == place) ≡ at → filter (λ x. x == place) ps ≡ place ∷ [] → filter (λ x. x == place) (p ∷ ps) ≡ place ∷ []
+  by true at later = absurd (let never : true ≡ false = sym (among ps i here) ∙ once.0 at in cc)
+  by false apart later = rw apart later
+
+-- and to take it out of the order is to keep the others
+others-kept : (order : List KnownPlace) (place : ℕ) → is_among place (map (λ (k : KnownPlace). k.place) order) ≡ false
+    → filter (λ (k : KnownPlace). not (k.place == place)) order ≡ order
+others-kept [] place none = refl
+others-kept (k ∷ ks) place none = by (k.place == place) refl (others-kept ks place) where
+  by : (at : Bool) → (k.place == place) ≡ at
+      → (is_among place (map (λ (x : KnownPlace). x.place) ks) ≡ false → filter (λ (x : KnownPlace). not (x.place == place)) ks ≡ ks)
+      → filter (λ (x : KnownPlace). not (x.place == place)) (k ∷ ks) ≡ k ∷ ks
+  by true at more = absurd (let never = rw at at none in cc)
+  by false apart more = rw apart (ap (λ (left : List KnownPlace). k ∷ left) (more (rw apart at none)))
+
+one-removed : (order : List KnownPlace) (i : ℕ) (k : KnownPlace) → slice_get order i ≡ Some k → IsOnce k.place (map (λ (x : KnownPlace). x.place) order)
+    → remove order i ≡ filter (λ (x : KnownPlace). not (x.place == k.place)) order
+one-removed [] i k here once = absurd (cc)
+one-removed (x ∷ xs) zero k here once =
+    let is : x ≡ k = cc in
+    let at : (x.place == k.place) ≡ true = rw is (grind (arith, nat_tests)) in
+    rw at (sym (others-kept xs k.place (once.0 at)))
+one-removed (x ∷ xs) (suc i) k here once = by (x.place == k.place) refl (one-removed xs i k here once.1) where
+  among : (qs : List KnownPlace) (j : ℕ) → slice_get qs j ≡ Some k → is_among k.place (map (λ (q : KnownPlace). q.place) qs) ≡ true
+  among [] j there = absurd (cc)
+  among (q ∷ qs) zero there = let is : q ≡ k = cc in rw is (grind (arith, nat_tests))
+  among (q ∷ qs) (suc j) there = grind (arith, nat_tests, among qs j there)
+
+  by : (at : Bool) → (x.place == k.place) ≡ at → remove xs i ≡ filter (λ (y : KnownPlace). not (y.place == k.place)) xs
+      → remove (x ∷ xs) (suc i) ≡ filter (λ (y : KnownPlace). not (y.place == k.place)) (x ∷ xs)
+  by true at later = absurd (let never : true ≡ false = sym (among xs i here) ∙ once.0 at in cc)
+  by false apart later = rw apart (ap (λ (left : List KnownPlace). x ∷ left) later)
+
+-- only its key is dropped
+dropped-one : (known : List Entry) (key : KeyName) (place : ℕ) → Contains known (key, place) → ((other : KeyName) → Contains known (other, place) → key ≡ other)
+    → (q : KeyName) → is_dropped (λ p. not (p == place)) q known ≡ key_eq q key
+dropped-one known key place there only q = by (key_eq q key) refl where
+  goes : (es : List Entry) → key_eq q key ≡ true → Contains es (key, place) → is_dropped (λ p. not (p == place)) q es ≡ true
+  goes [] same (i, inside, is) = absurd (omega (arith, inside))
+  goes (e ∷ es) same (zero, inside, is) = let own : e ≡ (key, place) = is in rw own (grind (arith, nat_tests, same))
+  goes (e ∷ es) same (suc i, inside, is) = grind (arith, nat_tests, goes es same (i, omega (arith, inside), is))
+
+  stays : (es : List Entry) → key_eq q key ≡ false → ((other : KeyName) → Contains es (other, place) → key ≡ other) → is_dropped (λ p. not (p == place)) q es ≡ false
+  stays [] other own = refl
+  stays (e ∷ es) other own = at (e.1 == place) refl (stays es other (λ k there. own k (has-later e es (k, place) there))) where
+    none : (b : Bool) → (b && not (not false)) ≡ false
+    none true = refl
+    none false = refl
+
+    at : (here : Bool) → (e.1 == place) ≡ here → is_dropped (λ p. not (p == place)) q es ≡ false → is_dropped (λ p. not (p == place)) q (e ∷ es) ≡ false
+    at true here rest =
+        let same : key ≡ e.0 = own e.0 (0, omega arith, ap (λ (p : ℕ). (e.0, p)) (same-place e.1 place here)) in
+        let apart : key_eq q e.0 ≡ false = subst (λ (k : KeyName). key_eq q k ≡ false) same other in
+        rw (apart, rest) refl
+    at false away rest = rw away (rw (none (key_eq q e.0)) rest)
+
+  by : (same : Bool) → key_eq q key ≡ same → is_dropped (λ p. not (p == place)) q known ≡ same
+  by true same = goes known same there
+  by false other = stays known other only
+
+key-back : (j k : KeyName) → key_eq j k ≡ key_eq k j
+key-back j k = by (key_eq j k) refl where
+  by : (same : Bool) → key_eq j k ≡ same → same ≡ key_eq k j
+  by true same = sym ((key-Decides k j).1 (sym ((key-Decides j k).0 same)))
+  by false other = sym (key-differs j k other)
+
+-- the known place with an index
+pub placed-at : (order : List KnownPlace) (i place : ℕ) → option_map (λ (k : KnownPlace). k.place) (slice_get order i) ≡ Some place
+    → (k : KnownPlace) × (slice_get order i ≡ Some k) × (k.place ≡ place)
+placed-at order i place there = by (slice_get order i) refl there where
+  by : (found : Option KnownPlace) → slice_get order i ≡ found → option_map (λ (k : KnownPlace). k.place) found ≡ Some place
+      → (k : KnownPlace) × (slice_get order i ≡ Some k) × (k.place ≡ place)
+  by None is at = cc
+  by (Some k) is at = (k, is, cc)
+
+module _ (met less : List (KeyName × Option ℕ)) (order : List KnownPlace) (known : List Entry) (are : AreKept met order known) where
+  -- the places are those of the order
+  listed : map (λ (e : Entry). e.1) known ≡ map (λ (k : KnownPlace). k.place) order
+  listed = ap (map (λ (e : Entry). e.1)) (sym are.0) ∙ places-listed (keys_of met) order are.1
+
+  module _ (place : ℕ) (one : HasOneKey place known) where
+    once-in : IsOnce place (map (λ (k : KnownPlace). k.place) order)
+    once-in = subst (IsOnce place) listed (once-there known place are.3 one)
+
+    module _ (i : ℕ) (k : KnownPlace) (here : slice_get order i ≡ Some k) (at : k.place ≡ place) where
+      place-here : slice_get (map (λ (x : KnownPlace). x.place) order) i ≡ Some place
+      place-here = slice_get-map (λ (x : KnownPlace). x.place) order i ∙ ap (option_map (λ (x : KnownPlace). x.place)) here ∙ ap (λ (p : ℕ). Some p) at
+
+      pub spare-found : filter (λ p. p == place) (map (λ (e : Entry). e.1) known) ≡ place ∷ []
+      spare-found = rw listed (one-there (map (λ (x : KnownPlace). x.place) order) i place place-here once-in)
+
+      -- its key
+      key-here : (key : KeyName) × (slice_get (keys_of met) k.key ≡ Some key) × Contains known (key, place)
+      key-here =
+          let held : Contains order k = has-at order i k here in
+          let inside : k.key < length (keys_of met) = subst (λ (x : KnownPlace). x.key < length (keys_of met)) held.2 (are.1 held.0 k held.1) in
+          let there = at-index (keys_of met) k.key inside in
+          let entry : known_key (keys_of met) k ≡ Some (there.0, place) = rw there.1 (ap (λ (p : ℕ). Some (there.0, p)) at) in
+          (there.0, there.1, subst (λ (es : List Entry). Contains es (there.0, place)) are.0 (listed-key order i here entry))
+        where
+          listed-key : {key : KeyName} (ks : List KnownPlace) (j : ℕ) → slice_get ks j ≡ Some k → known_key (keys_of met) k ≡ Some (key, place)
+              → Contains (known_keys (keys_of met) ks) (key, place)
+          listed-key [] j there entry = absurd (cc)
+          listed-key {key} (x ∷ xs) zero there entry =
+              let is : x ≡ k = cc in
+              let own : known_key (keys_of met) x ≡ Some (key, place) = subst (λ (y : KnownPlace). known_key (keys_of met) y ≡ Some (key, place)) (sym is) entry in
+              rw own (0, omega arith, refl)
+          listed-key {key} (x ∷ xs) (suc j) there entry = by (known_key (keys_of met) x) refl (listed-key {key = key} xs j there entry) where
+            by : (found : Option Entry) → known_key (keys_of met) x ≡ found → Contains (known_keys (keys_of met) xs) (key, place)
+                → Contains (known_keys (keys_of met) (x ∷ xs)) (key, place)
+            by None is later = rw is later
+            by (Some e) is later = rw is (has-later e (known_keys (keys_of met) xs) (key, place) later)
+
+      pub kept-without : keys_of less ≡ keys_of met
+          → ((key q : KeyName) → slice_get (keys_of met) k.key ≡ Some key → place_met q less ≡ (if key_eq key q then None else place_met q met))
+          → AreKept less (remove order i) (filter (λ (e : Entry). not (e.1 == place)) known)
+      kept-without same told =
+          let key = key-here.0 in
+          let dropped : (q : KeyName) → place_met q less ≡ (if is_dropped (λ p. not (p == place)) q (known_keys (keys_of met) order) then None else place_met q met) =
+          (λ q. told key q key-here.1
+          ∙ ap (λ (goes : Bool). if goes then None else place_met q met)
+          (key-back key q ∙ sym (dropped-one known key place key-here.2 (λ other there. one key other key-here.2 there) q)
+          ∙ ap (is_dropped (λ p. not (p == place)) q) (sym are.0))) in
+          let fewer = kept-fewer (λ p. not (p == place)) met less order known are same dropped in
+          let removed : remove order i ≡ filter (λ (x : KnownPlace). not (x.place == place)) order =
+          subst (λ (p : ℕ). remove order i ≡ filter (λ (x : KnownPlace). not (x.place == p)) order) at
+          (one-removed order i k here (subst (λ (p : ℕ). IsOnce p (map (λ (x : KnownPlace). x.place) order)) (sym at) once-in)) in
+          subst (λ (places : List KnownPlace). AreKept less places (filter (λ (e : Entry). not (e.1 == place)) known)) (sym removed) fewer
+
+  -- nothing is known at a place that isn't in the order
+  module _ (place : ℕ) (none : list_any (λ (k : KnownPlace). k.place == place) order ≡ false) where
+    away : is_among place (map (λ (e : Entry). e.1) known) ≡ false
+    away = rw listed (mapped order ∙ none) where
+      mapped : (ks : List KnownPlace) → is_among place (map (λ (k : KnownPlace). k.place) ks) ≡ list_any (λ (k : KnownPlace). k.place == place) ks
+      mapped [] = refl
+      mapped (k ∷ ks) = ap (λ (later : Bool). (k.place == place) || later) (mapped ks)
+
+    pub spare-missed : filter (λ p. p == place) (map (λ (e : Entry). e.1) known) ≡ []
+    spare-missed = none-there (map (λ (e : Entry). e.1) known) place away
+
+    pub known-still-all : filter (λ (e : Entry). not (e.1 == place)) known ≡ known
+    known-still-all = all known away where
+      all : (es : List Entry) → is_among place (map (λ (e : Entry). e.1) es) ≡ false → filter (λ (e : Entry). not (e.1 == place)) es ≡ es
+      all [] gone = refl
+      all (e ∷ es) gone = by (e.1 == place) refl (all es) where
+        by : (at : Bool) → (e.1 == place) ≡ at → (is_among place (map (λ (x : Entry). x.1) es) ≡ false → filter (λ (x : Entry). not (x.1 == place)) es ≡ es)
+            → filter (λ (x : Entry). not (x.1 == place)) (e ∷ es) ≡ e ∷ es
+        by true at more = absurd (let never = rw at at gone in cc)
+        by false apart more = rw apart (ap (λ (left : List Entry). e ∷ left) (more (rw apart at gone)))
+
 none-pass : {X : Type 0} (xs : List X) → filter (λ _. false) xs ≡ []
 none-pass [] = refl
 none-pass (x ∷ xs) = none-pass xs
+
+-- so there was one
+pub no-snoc : {X : Type 0} (xs : List X) (x : X) → xs ++ x ∷ [] ≡ [] → ⊥
+no-snoc [] x none = cc
+no-snoc (y ∷ ys) x none = cc
 
 -- all forgotten
 pub kept-none : (met less : List (KeyName × Option ℕ)) (order : List KnownPlace) (known : List Entry) → AreKept met order known → keys_of less ≡ keys_of met

@@ -23,6 +23,7 @@ pub mod SearchLemmas
 pub mod SeekLemmas
 pub mod ServingLemmas
 pub mod SoughtLemmas
+pub mod SpareLemmas
 pub mod StayTidyLemmas
 pub mod SureLemmas
 pub mod TidyLemmas

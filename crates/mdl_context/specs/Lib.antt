@@ -11,6 +11,7 @@ pub mod Outcomes
 pub mod Releases
 pub mod Requests
 pub mod SearchEnds
+pub mod Spares
 pub mod Terms
 pub mod Tidying
 pub mod TidyLaws

@@ -1,5 +1,5 @@
 //! The tickets that a context keeps, the places that it knows, and its wait.
-ghost use Rattle.std.specs.Prelude.{◌≡◌, ℕ, List, true, false, Some, None, [], ◌∷◌, ◌++◌, map, filter, find, length, is_some, OnOk, OnErr, slice_get, position, take, not, ◌-◌, ◌<◌, ◌≤◌};
+ghost use Rattle.std.specs.Prelude.{◌≡◌, ◌⊎◌, ℕ, List, true, false, Some, None, [], ◌∷◌, ◌++◌, if◌then◌else◌, map, filter, find, length, is_some, OnOk, OnErr, slice_get, position, take, not, ◌-◌, ◌<◌, ◌≤◌};
 ghost use Rattle.std.specs.Vec.{vec_capacity};
 ghost use Rattle.std.specs.Option.{option_copied, option_map};
 ghost use Rattle.std.specs.List.{list_any};
@@ -9,14 +9,17 @@ ghost use Rattle.mdl_calls.specs.SessionLocks.{upgraded};
 ghost use Rattle.mdl_context.specs.Contexts.{AreRising, covers_at, lasts, tickets_for, has_number, held_of, is_user_lock, last_at, place_known, ticket_kept};
 ghost use Rattle.mdl_context.specs.Goings.{goes};
 ghost use Rattle.mdl_context.specs.Holdings.{context_of, without_number, is_kept_at, has_ticket_number, IsIndexOf, has_room, earliest, kept_for, lasting, with_duration, in_transaction, transactional, kept_ticket, wanted_of, wanted_upgrade, awaited_upgrade, with_kept_mode, with_wanted, search_over};
-ghost use Rattle.mdl_context.specs.Indexes.{has_room_for};
+ghost use Rattle.mdl_context.specs.Indexes.{has_room_for, ticket_numbers};
+ghost use Rattle.mdl_context.specs.declared.spare.Spare.TheVariants.{At};
+ghost use Rattle.mdl_context.specs.Spares.{AreMarked, HasOneKey, marks};
 ghost use Rattle.mdl_context.specs.Waits.{is_searched};
 ghost use Rattle.mdl_context.specs.Terms.{meets, serves_again};
-ghost use Rattle.mdl_context.specs.Tidying.{is_needed, tidied};
+ghost use Rattle.mdl_context.specs.Tidying.{is_needed, tidied, unneeded};
 
 use crate::by_place::ByPlace;
 use crate::going::Going;
 use crate::known::Known;
+use crate::spare::Spare;
 use crate::wishes::{Terms, covers};
 use crate::{Kept, Wanted};
 use mdl_key::{Duration, Key, Mode};
@@ -29,21 +32,25 @@ use std::marker::Model;
 ///
 /// Each request looks up its key once. From then on tickets are found by place, not by key. An index gives the tickets at a
 /// place, and a binary search the ticket of a number, unless that is the last one. So neither walks all tickets. While there is
-/// a wait, room is reserved for its ticket, so taking it up takes no memory.
+/// a wait, room is reserved for its ticket, so taking it up takes no memory. A mark says where there may be places that aren't
+/// needed, so that not all known places are looked at after each release.
 #[derive(Drop)]
 pub(crate) struct Holdings {
     tickets: Vec<Kept>,
     by_place: ByPlace,
     known: Known,
     wait: Option<Wanted>,
+    // Each known place is needed or marked.
+    spare: Spare,
 }
 
 impl Model for Holdings {
     ghost use Rattle.std.specs.Prelude.{◌≡◌, true, ◌<◌, nat_lt, length};
     ghost use Rattle.std.specs.Option.{IfSome};
     ghost use Rattle.std.specs.Vec.{vec_capacity};
-    ghost use Rattle.mdl_context.specs.Holdings.{HoldingsView, IsIndexOf};
+    ghost use Rattle.mdl_context.specs.Holdings.{HoldingsView, IsIndexOf, needs_place};
     ghost use Rattle.mdl_context.specs.Indexes.{has_room_for};
+    ghost use Rattle.mdl_context.specs.Spares.{AreMarked};
 
     ghost Value = { HoldingsView };
 
@@ -56,7 +63,8 @@ impl Model for Holdings {
     } };
 
     ghost invariant = { λ holdings. IsIndexOf holdings.tickets.items holdings.by_place
-        × IfSome holdings.wait (λ wanted. (length holdings.tickets.items < vec_capacity holdings.tickets) × (has_room_for wanted.place holdings.by_place ≡ true)) };
+        × IfSome holdings.wait (λ wanted. (length holdings.tickets.items < vec_capacity holdings.tickets) × (has_room_for wanted.place holdings.by_place ≡ true))
+        × AreMarked holdings.spare (needs_place holdings.by_place holdings.wait) holdings.known };
 }
 
 impl Holdings {
@@ -71,6 +79,7 @@ impl Holdings {
             by_place: ByPlace::new(alloc),
             known: Known::new(alloc),
             wait: None,
+            spare: Spare::Nowhere,
         }
     }
 
@@ -144,7 +153,9 @@ impl Holdings {
         ensures kept { self.new.kept ≡ self.old.kept }
         ensures wait { self.new.wait ≡ self.old.wait }
     {
-        self.known.add(key, place)
+        self.known.add(key, place)?;
+        self.spare.mark(place);
+        Ok(())
     }
 
     /// Forgets the place that became known last. Takes no memory.
@@ -184,10 +195,42 @@ impl Holdings {
         ensures known { (who : ℕ) → self.new.known ≡ (tidied (context_of who self.old)).known }
         ensures wait { self.new.wait ≡ self.old.wait }
     {
+        self.spare = Spare::Nowhere;
         if self.tickets.is_empty() && self.wait.is_none() {
             return self.known.forget_all();
         }
         self.known.forget_unneeded(&self.by_place, self.wait);
+    }
+
+    /// Where there may be known places that aren't needed.
+    pub(crate) fn spare(&self) -> Spare
+        ensures { (who : ℕ) → AreMarked result (is_needed (context_of who self.now)) self.now.known }
+    {
+        self.spare
+    }
+
+    /// Forgets a place that isn't needed. No other known place is like that. Returns whether the place was known. Takes no memory.
+    pub(crate) fn forget_spare(&mut self, place: Place) -> bool
+        requires one { HasOneKey place self.old.known }
+        requires spare { (who : ℕ) → is_needed (context_of who self.old) place ≡ false }
+        requires others { (who : ℕ) → AreMarked (At place) (is_needed (context_of who self.old)) self.old.known }
+        ensures kept { self.new.kept ≡ self.old.kept }
+        ensures known { (who : ℕ) → self.new.known ≡ (tidied (context_of who self.old)).known }
+        ensures spare { (who : ℕ) → unneeded (context_of who self.old) ≡ (if result then place ∷ [] else []) }
+        ensures wait { self.new.wait ≡ self.old.wait }
+    {
+        self.spare = Spare::Nowhere;
+        self.known.forget_at(place)
+    }
+
+    /// Notes that each known place is needed.
+    pub(crate) fn note_tidy(&mut self)
+        requires { (who : ℕ) → unneeded (context_of who self.old) ≡ [] }
+        ensures kept { self.new.kept ≡ self.old.kept }
+        ensures known { self.new.known ≡ self.old.known }
+        ensures wait { self.new.wait ≡ self.old.wait }
+    {
+        self.spare = Spare::Nowhere;
     }
 
     /// Makes room for one more ticket at a place.
@@ -234,6 +277,7 @@ impl Holdings {
         ensures wait { self.new.wait ≡ None }
     {
         self.by_place.push(ticket.place, ticket.id);
+        self.spare.unmark(ticket.place);
         self.tickets.push_reserved(ticket);
     }
 
@@ -244,6 +288,8 @@ impl Holdings {
         ensures known { self.new.known ≡ self.old.known }
         ensures wait { self.new.wait ≡ Some wanted }
     {
+        self.drop_wait();
+        self.spare.unmark(wanted.place);
         self.wait = Some(wanted);
     }
 
@@ -267,11 +313,14 @@ impl Holdings {
 
     /// Ends the wait, if there is one, without a ticket.
     pub(crate) fn drop_wait(&mut self)
+        ensures room { (place : ℕ) → has_room place self.new ≡ has_room place self.old }
         ensures kept { self.new.kept ≡ self.old.kept }
         ensures known { self.new.known ≡ self.old.known }
         ensures wait { self.new.wait ≡ None }
     {
-        self.wait = None;
+        if let Some(wanted) = self.wait.take() {
+            self.spare.mark(wanted.place);
+        }
     }
 
     /// The index of the ticket with a number, if there is one.
@@ -369,6 +418,7 @@ impl Holdings {
     {
         let ticket = self.tickets.pop().unwrap();
         self.by_place.remove_last(ticket.place);
+        self.spare.mark(ticket.place);
     }
 
     // The same as `remove`, for a ticket that may be before others. It is apart so that the removal of the last one is inlined.
@@ -382,6 +432,7 @@ impl Holdings {
     {
         let ticket = self.tickets.remove(at);
         self.by_place.remove(ticket.place, id);
+        self.spare.mark(ticket.place);
     }
 
     /// Removes the tickets that `going` names. Takes no memory.
@@ -391,7 +442,7 @@ impl Holdings {
         ensures known { self.new.known ≡ self.old.known }
         ensures wait { self.new.wait ≡ self.old.wait }
     {
-        drop_numbers(&mut self.by_place, &self.tickets, going);
+        drop_numbers(&mut self.by_place, &mut self.spare, &self.tickets, going);
         keep_others(&mut self.tickets, going);
     }
 
@@ -598,17 +649,20 @@ fn keep_others(tickets: &mut Vec<Kept>, going: &Going)
     tickets.retain(|ticket| !going.names(ticket));
 }
 
-// Removes from the index the numbers of the tickets that `going` names.
-fn drop_numbers(by_place: &mut ByPlace, tickets: &[Kept], going: &Going)
+// Removes from the index the numbers of the tickets that `going` names, and marks their places.
+fn drop_numbers(by_place: &mut ByPlace, spare: &mut Spare, tickets: &[Kept], going: &Going)
     requires rising { AreRising tickets.now }
     requires index { IsIndexOf tickets.now by_place.old }
     ensures index { IsIndexOf (filter (λ ticket. not (goes going.now ticket)) tickets.now) by_place.new }
     ensures room { (place : ℕ) → has_room_for place by_place.old ≡ true → has_room_for place by_place.new ≡ true }
+    ensures others { (place : ℕ) → (marks spare.new place ≡ true) ⊎ (ticket_numbers place by_place.new ≡ ticket_numbers place by_place.old) }
+    ensures marked { (place : ℕ) → marks spare.old place ≡ true → marks spare.new place ≡ true }
 {
     for at in (0..tickets.len()).rev() {
         let ticket = &tickets[at];
         if going.names(ticket) {
             by_place.remove(ticket.place, ticket.id);
+            spare.mark(ticket.place);
         }
     }
 }

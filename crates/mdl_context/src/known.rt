@@ -1,11 +1,13 @@
 //! The keys whose places a context knows.
-ghost use Rattle.std.specs.Prelude.{◌≡◌, ◌⊎◌, ℕ, List, false, None, Some, [], ◌∷◌, ◌++◌, ◌<◌, length, map, filter, slice_get, if◌then◌else◌, OnOk, OnErr, IfOk, IfSome, IfNone};
-ghost use Rattle.std.specs.Option.{option_map_or};
+ghost use Rattle.std.specs.Prelude.{◌≡◌, ◌⊎◌, ℕ, List, true, false, None, Some, [], ◌∷◌, ◌++◌, ◌<◌, ◌==◌, not, length, map, filter, slice_get, if◌then◌else◌, OnOk, OnErr, IfOk, IfSome, IfNone};
+ghost use Rattle.std.specs.List.{list_any};
+ghost use Rattle.std.specs.Option.{option_map, option_map_or};
 ghost use Rattle.indexmap.specs.IndexMap.{get, keys};
 ghost use Rattle.mdl_key.specs.Keys.{KeyName, key_eq};
 ghost use Rattle.mdl_context.specs.Contexts.{is_of_user_locks, is_user_lock, place_known};
 ghost use Rattle.mdl_context.specs.Holdings.{needs_place};
 ghost use Rattle.mdl_context.specs.KnownKeys.{AreIndexes, KeepsKeys, is_dropped, known_keys, place_met};
+ghost use Rattle.mdl_context.specs.Spares.{HasOneKey};
 
 use crate::Wanted;
 use crate::by_place::ByPlace;
@@ -114,7 +116,8 @@ impl Known {
 
     /// Forgets the key that became known last. Takes no memory.
     pub(crate) fn forget_last(&mut self)
-        ensures { (before : List (KeyName × ℕ)) (last : KeyName × ℕ) → self.old ≡ before ++ last ∷ [] → self.new ≡ before }
+        ensures last { (before : List (KeyName × ℕ)) (last : KeyName × ℕ) → self.old ≡ before ++ last ∷ [] → self.new ≡ before }
+        ensures none { self.old ≡ [] → self.new ≡ [] }
     {
         if let Some(last) = self.order.pop() {
             drop_place(&mut self.met, last.key);
@@ -127,6 +130,20 @@ impl Known {
     {
         drop_places(&mut self.met, &self.order, by_place, wait);
         keep_needed(&mut self.order, by_place, wait);
+    }
+
+    /// Forgets the key at a place. Returns whether one was known there. Takes no memory.
+    pub(crate) fn forget_at(&mut self, place: Place) -> bool
+        requires { HasOneKey place self.old }
+        ensures known { self.new ≡ filter (λ entry. not (entry.1 == place)) self.old }
+        ensures spare { filter (λ p. p == place) (map (λ entry. entry.1) self.old) ≡ (if result then place ∷ [] else []) }
+    {
+        let Some(at) = last_at(&self.order, place) else {
+            return false;
+        };
+        let gone = self.order.remove(at);
+        drop_place(&mut self.met, gone.key);
+        true
     }
 
     /// Forgets all keys. Takes no memory.
@@ -154,6 +171,19 @@ fn place_among(met: &IndexMap<Key, Option<Place>>, order: &[KnownPlace], key: &K
         .iter()
         .find(|known| is_key(met, known.key, key))
         .map(|known| known.place)
+}
+
+// The index of the last known key at a place, if there is one.
+fn last_at(order: &[KnownPlace], place: Place) -> Option<usize>
+    ensures found { IfSome result (λ at. option_map (λ known. known.place) (slice_get order.now at) ≡ Some place) }
+    ensures none { IfNone result (list_any (λ known. known.place == place) order.now ≡ false) }
+{
+    for at in (0..order.len()).rev() {
+        if order[at].place == place {
+            return Some(at);
+        }
+    }
+    None
 }
 
 // Whether the key with an index is this one.

@@ -39,6 +39,7 @@ mod numbers;
 mod releasing;
 mod request;
 mod searches;
+mod spare;
 mod tidying;
 mod wish_laws;
 mod wishes;

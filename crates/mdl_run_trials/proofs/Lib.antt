@@ -1,1 +1,2 @@
 pub mod PassLemmas
+pub mod RoomLemmas

@@ -5,14 +5,17 @@ ghost use Rattle.mdl_calls.specs.Words.{Done, Release, Runs};
 ghost use Rattle.mdl_context.specs.Contexts.{beyond, beyond_mark, has_number, newest_first, of_statement, of_transaction, place_known, tickets_for, without_tickets, Attends, LeavesOthers};
 ghost use Rattle.mdl_context.specs.Holdings.{has_ticket_number, without_number};
 ghost use Rattle.mdl_context.specs.Releases.{at_known_place, releasing_all, releasing_tickets, waiting_fault, release_fault, rollback_fault, releasing, releasing_name, rolling_back, ending_statement, ending_transaction, ending_explicit, giving_up_all};
-ghost use Rattle.mdl_context.specs.Tidying.{IsTidy, LetsGo, PinsJustNeeded, tidied, unneeded, unpinning_all};
+ghost use Rattle.mdl_context.specs.declared.spare.Spare.TheVariants.{At};
+ghost use Rattle.mdl_context.specs.Spares.{AreMarked};
+ghost use Rattle.mdl_context.specs.Tidying.{IsTidy, LetsGo, PinsJustNeeded, is_needed, tidied, unneeded, unpinning_all};
 
 use crate::going::Going;
 use crate::releasing::{release, release_all};
-use crate::tidying::unpin_unneeded;
+use crate::spare::Spare;
+use crate::tidying::{unpin, unpin_unneeded};
 use crate::{Context, ContextError, Mark};
 use mdl_key::{Duration, Key};
-use mdl_space::{LockSpace, TicketId};
+use mdl_space::{LockSpace, Place, TicketId};
 
 // The mark of a session that has no tickets of a statement and none of a transaction.
 const START: Mark = Mark {
@@ -324,8 +327,39 @@ impl<S: LockSpace> Context<S> {
         ensures attends { Attends S.LockSpace space.new self.new }
         ensures let_go { LetsGo S.LockSpace space.old self.old space.new self.new }
     {
+        match self.holdings.spare() {
+            Spare::Nowhere => {}
+            Spare::At(place) => self.tidy_at(space, place),
+            Spare::Anywhere => self.tidy_all(space),
+        }
+    }
+
+    // The same, if no known place but this one may be unneeded.
+    fn tidy_at(&mut self, space: &mut S, place: Place)
+        requires attends { Attends S.LockSpace space.old self.old }
+        requires others { AreMarked (At place) (is_needed self.old) self.old.known }
+        ensures run { Runs S.joins space.old (unpinning_all self.old.who (unneeded self.old)) tt space.new }
+        ensures tidied { self.new ≡ tidied self.old }
+    {
+        if self.holdings.is_needed(place) {
+            return;
+        }
+        if self.holdings.forget_spare(place) {
+            unpin(space, self.who, place);
+        }
+    }
+
+    // The same. All known places are looked at.
+    #[inline(never)]
+    fn tidy_all(&mut self, space: &mut S)
+        requires attends { Attends S.LockSpace space.old self.old }
+        ensures run { Runs S.joins space.old (unpinning_all self.old.who (unneeded self.old)) tt space.new }
+        ensures tidied { self.new ≡ tidied self.old }
+    {
         if unpin_unneeded(space, self.who, &self.holdings) {
             self.holdings.forget_unneeded();
+        } else {
+            self.holdings.note_tidy();
         }
     }
 }

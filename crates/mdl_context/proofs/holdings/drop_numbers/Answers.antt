@@ -1,8 +1,10 @@
 -- The number of each ticket that goes is taken out.
 use Rattle.std.proofs.Common.{◌≤◌, ◌-◌, ◌∙◌, get_or, length, sym, arith}
 use Rattle.mdl_context.specs.Goings.{goes}
+use Rattle.mdl_context.specs.Indexes.{ticket_numbers, without_one}
 use Rattle.mdl_context.proofs.PlaceLemmas.{index-less, rising-left, rising-numbers, left-has, left-without}
 use Rattle.mdl_context.proofs.ReleaseLemmas.{no_item, left, left-stays}
+use Rattle.mdl_context.proofs.SpareLemmas.{one-dropped}
 use Rattle.mdl_context.proofs.holdings.drop_numbers.Goals as goal
 
 pub remove-requires : goal.remove-requires
@@ -29,6 +31,9 @@ loop-at-preserved-then-names c =
     record {
       index = rw (left-without p kept at more inside c.requires.rising goes_now) less;
       room = λ place there. c.remove.ensures.stays place (known.room place there);
+      others = one-dropped c.args.by_place.now c.loop-at.by_place c.remove.new.self c.loop-at.spare c.mark.new.self t.place
+          (without_one t.id (ticket_numbers t.place c.loop-at.by_place)) known.others c.remove.ensures.numbers c.mark.ensures.here c.mark.ensures.others;
+      marked = λ place there. c.mark.ensures.others place (known.marked place there);
     }
 
 pub loop-at-preserved : goal.loop-at-preserved
@@ -42,4 +47,6 @@ loop-at-preserved c =
     record {
       index = rw (left-stays p kept at c.loop-at-test.true inside stays_now) known.index;
       room = known.room;
+      others = known.others;
+      marked = known.marked;
     }

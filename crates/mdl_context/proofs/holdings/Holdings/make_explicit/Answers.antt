@@ -17,4 +17,5 @@ invariant_of-self c =
     rw items (
       λ q. c.self.invariant.0 q ∙ sym (numbers-changed (kept_for Explicit) (λ t. refl) (λ t. refl) q before),
       rw (length-map before (kept_for Explicit)) c.self.invariant.1,
+      c.self.invariant.2,
     )

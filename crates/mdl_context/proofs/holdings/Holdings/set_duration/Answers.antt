@@ -18,4 +18,5 @@ invariant_of-self c =
     rw items (
       λ q. c.self.invariant.0 q ∙ sym (numbers-changed change (λ t. ap (λ held. held.id) (same t)) (λ t. ap (λ held. held.place) (same t)) q before),
       rw (length-map before change) c.self.invariant.1,
+      c.self.invariant.2,
     )

@@ -16,6 +16,7 @@ invariant_of-self c =
     in_mode-at c.args.id (λ _. c.args.mode) kept c.in-Some.at c.index_mut.result.now c.args.mode rising place c.index_mut.ensures.value refl in (
       λ q. c.self.invariant.0 q ∙ sym (rw now (numbers-in_mode c.args.id (λ _. c.args.mode) q kept)),
       rw (length-set kept c.in-Some.at (record c.index_mut.result.now { mode = c.args.mode })) c.self.invariant.1,
+      c.self.invariant.2,
     )
 
 pub returns-in-Some-clause-kept : goal.returns-in-Some-clause-kept

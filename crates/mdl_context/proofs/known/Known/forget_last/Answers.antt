@@ -5,7 +5,7 @@ use Rattle.indexmap.specs.IndexMap.{keys}
 use Rattle.mdl_key.specs.Keys.{KeyName}
 use Rattle.mdl_context.specs.declared.known.KnownPlace.{KnownPlace}
 use Rattle.mdl_context.specs.KnownKeys.{AreKnownOnce, AreMet, known_keys}
-use Rattle.mdl_context.proofs.KnownLemmas.{AreKept, kept-front}
+use Rattle.mdl_context.proofs.KnownLemmas.{AreKept, kept-front, no-snoc}
 use Rattle.mdl_context.proofs.known.Known.forget_last.Goals as goal
 
 after-drop : (c : goal.After-drop_place)
@@ -28,7 +28,12 @@ invariant_of-self c =
       once = subst AreKnownOnce (sym after.0) after.3;
     }
 
-pub returns-in-Some : goal.returns-in-Some
-returns-in-Some c = λ before last is.
+pub returns-in-Some-clause-none : goal.returns-in-Some-clause-none
+returns-in-Some-clause-none c = λ none.
+    let after = after-drop c in
+    absurd (no-snoc after.0 after.1 (sym after.2 ∙ c.self.view_is ∙ none))
+
+pub returns-in-Some-clause-last : goal.returns-in-Some-clause-last
+returns-in-Some-clause-last c = λ before last is.
     let after = after-drop c in
     after.3.0 ∙ (same_from_push after.0 before after.1 last (sym after.2 ∙ c.self.view_is ∙ is)).0
