@@ -114,6 +114,14 @@ CHARTS = {
         ),
     ),
     "c": Chart("Calls from C", "Nanoseconds, by the threads that call", (Panel("nanoseconds", THREADS, is_log=True),)),
+    "sides": Chart(
+        "Calls from C, beside the same in Rattle",
+        "Instructions of the same job from C and in Rattle; how many times Rattle's those from C are, and the goal",
+        (
+            Panel("instructions", (Bar("from C", "a", "from C"), Bar("in Rattle", "b", "in Rattle")), share=1.6),
+            Panel("times", (Bar("times", "d", "from C : in Rattle"),)),
+        ),
+    ),
     "sessions": Chart("What sessions cost", "Memory of a new space of 256 places, by its sessions", (Panel("kB", SESSIONS),)),
     "searches": Chart("A search for a deadlock", "Instructions, by those who wait", (Panel("instructions", WAITERS, is_log=True),)),
 }

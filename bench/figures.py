@@ -90,6 +90,7 @@ LAYOUTS = {
     "parts": Layout(("ours", "model")),
     "mdlview": Layout(("rows", "KB of rows", "ms", "MB", "grep, ms")),
     "c": Layout(("1 thread", "2 threads", "4 threads")),
+    "sides": Layout(("from C", "in Rattle", "times", GOAL + "times"), "times"),
     "sessions": Layout(("64 sessions, kB", "1,024, kB")),
     "searches": Layout(("2 waiters", "63 or 64", "1,000 or 1,023")),
 }
