@@ -88,8 +88,8 @@ static void take_directly(void)
     done(gaz_one_table(&space, WHO, BYTES(schema), BYTES(tables[0]), &place));
     done(gaz_one_try(&space, WHO, place, GAZ_SR, &ticket));
     done(gaz_one_release(&space, WHO, ticket));
-    wake_nobody();
     done(gaz_one_unpin(&space, WHO, place));
+    wake_nobody();
 }
 
 int main(int count, char **words)

@@ -1,5 +1,5 @@
 //! A session without a context.
-ghost use Rattle.mdl_core.specs.Words.{SpeaksFor};
+ghost use Rattle.mdl_space.specs.CoreMembers.{core_space};
 
 use crate::host::{SESSIONS, wakes_nobody};
 use crate::names::{Names, key_of};
@@ -22,19 +22,20 @@ pub fn serve_directly(alloc: Global, turns: u32) -> u32 {
 }
 
 fn make_turns(alloc: Global, space: &mut CoreSpace, schema: &[u8], table: &[u8], turns: u32) -> u32
-    requires { SpeaksFor space.old 1 }
+    requires { core_space.speaks_for space.old 1 }
 {
     let mut made = 0u32;
     for _turn in 0..turns {
-        made = made.wrapping_add(u32::from(takes(alloc, space, schema, table)));
+        let is_made = takes(alloc, space, schema, table);
+        made = made.wrapping_add(u32::from(is_made && wakes_nobody(space)));
     }
     made
 }
 
 // Looks up the place of a table, locks the table to read, unlocks it, and gives up the place. Whether all succeeded.
-fn takes(alloc: Global, space: &mut CoreSpace, schema: &[u8], table: &[u8]) -> bool
-    requires { SpeaksFor space.old 1 }
-    ensures { SpeaksFor space.new 1 }
+fn takes<S: LockSpace>(alloc: Global, space: &mut S, schema: &[u8], table: &[u8]) -> bool
+    requires { S.speaks_for space.old 1 }
+    ensures { S.speaks_for space.new 1 }
 {
     let Some(key) = key_of(alloc, schema, table) else {
         return false;
@@ -47,15 +48,12 @@ fn takes(alloc: Global, space: &mut CoreSpace, schema: &[u8], table: &[u8]) -> b
     }
 }
 
-fn takes_at(space: &mut CoreSpace, place: Place) -> bool
-    requires { SpeaksFor space.old 1 }
-    ensures { SpeaksFor space.new 1 }
+fn takes_at<S: LockSpace>(space: &mut S, place: Place) -> bool
+    requires { S.speaks_for space.old 1 }
+    ensures { S.speaks_for space.new 1 }
 {
     match space.try_now(1, place, Mode::SR) {
-        Ok(Attempt::Granted(id)) => {
-            let is_released = space.release(1, id).is_ok();
-            is_released && wakes_nobody(space)
-        }
+        Ok(Attempt::Granted(id)) => space.release(1, id).is_ok(),
         _ => false,
     }
 }

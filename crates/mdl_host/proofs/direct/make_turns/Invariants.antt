@@ -1,6 +1,6 @@
 -- The space goes on to speak for the session.
-use Rattle.mdl_core.specs.Words.{SpeaksFor}
+use Rattle.mdl_space.specs.CoreMembers.{core_space}
 use Rattle.mdl_host.proofs.direct.make_turns.Given as goal
 
 abbrev pub invariant-loop-turn : goal.invariant-loop-turn
-invariant-loop-turn l = SpeaksFor l.space 1
+invariant-loop-turn l = core_space.speaks_for l.space 1
