@@ -167,7 +167,6 @@ impl ServedSpace {
     }
 
     /// Changes the tickets that the session's context keeps.
-    #[inline(always)]
     pub fn change(
         &mut self,
         who: u16,
