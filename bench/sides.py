@@ -1,9 +1,12 @@
 """Counts the instructions of calls from C beside those of the same calls in Rattle, and prints them as figures (bench/figures.py says what these are).
 
-Usage, at the top of the repository, once `python3 make/archive.py mdl_c` and `sh make/build.sh mdl_host bytes 1` have built the library and the program:
+Usage, at the top of the repository:
+    python3 make/archive.py mdl_c                   builds the library
+    sh make/build.sh mdl_host_bench bytes 1         builds the program
     python3 bench/sides.py > FIGURES
+    python3 bench/figures.py take FIGURES           puts them into bench/figures.tsv
 Both sides do the same job in one run: names come as bytes, and after each call that may settle a wait they ask whom to wake. bench/peers/sides.c is the side
-of C, crates/mdl_host that of Rattle. A count is the difference of two runs, so it leaves out what is done once. It needs gcc and valgrind."""
+of C, crates/mdl_host_bench that of Rattle. A count is the difference of two runs, so it leaves out what is done once. It needs gcc and valgrind."""
 
 import datetime
 import pathlib
@@ -17,7 +20,7 @@ from figures import FIELDS, GOAL
 
 KIT = pathlib.Path(shutil.which("rt") or "rt").resolve().parent.parent
 ARCHIVE = pathlib.Path("crates/mdl_c/out/libmdl_c.a")
-HOST = pathlib.Path("crates/mdl_host/out/mdl_host")
+HOST = pathlib.Path("crates/mdl_host_bench/out/mdl_host_bench")
 HEADERS, SOURCE = "crates/mdl_c/include", "bench/peers/sides.c"
 
 FEW, MANY = 1000, 11000
@@ -27,7 +30,7 @@ ROWS = {
     "bytes": "a transaction",
     "kept": "a transaction > with kept keys",
     "tried": "three tables tried, then back to a mark",
-    "direct": "a table looked up, locked in SR, unlocked and unpinned",
+    "direct": "a table locked without a context",
 }
 ONLY_IN_RATTLE = {"kept"}
 

@@ -1,5 +1,5 @@
-/* The calls of a server's session from C, over libgaz_one.a, for bench/sides.py to count: the same as mdl_host makes in Rattle (crates/mdl_host). Its words
- * are what a turn is, and how many turns it makes. */
+/* The calls of a server's session from C, over libgaz_one.a, for bench/sides.py to count: the same as crates/mdl_host_bench makes in Rattle. Its words are
+ * what a turn is, and how many turns it makes. */
 #include "gaz_one.h"
 
 #include <stdio.h>

@@ -1,9 +1,10 @@
-//! `mdl_host` makes the calls of a server's session in a space of one thread, whose instructions `bench/sides.py` counts beside those of the same calls from C.
+//! `mdl_host_bench` makes the calls of a server's session in a space of one thread. `bench/sides.py` counts their instructions beside those of the same calls
+//! from C.
 //!
 //! Its words are what a turn is, and how many turns it makes. In a transaction (`bytes`) GLOBAL is locked in IX and three tables in SW, whose names are
-//! bytes of which keys are made anew, and the transaction ends. In the others the keys are kept (`kept`), or no lock is waited for, and the session goes back to
-//! a mark (`tried`). Without a context, one table's place is looked up, and the table is locked in SR and unlocked (`direct`). After each call
-//! the program asks whether a wait is settled.
+//! bytes of which keys are made anew, and the transaction ends. In the others the keys are kept (`kept`), or no lock is waited for, and the session
+//! goes back to a mark (`tried`). Without a context, one table's place is looked up, and the table is locked in SR and unlocked (`direct`). After each
+//! call the program asks whether a wait is settled.
 #![tactic(auto)]
 
 mod direct;

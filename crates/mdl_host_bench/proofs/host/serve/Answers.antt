@@ -1,7 +1,7 @@
 -- A session that has nothing is served by a context that keeps nothing.
 use Rattle.std.proofs.Common.{refl, arith}
 use Rattle.std.proofs.lemmas.List.Elements.{All-nil}
-use Rattle.mdl_host.proofs.host.serve.Goals as goal
+use Rattle.mdl_host_bench.proofs.host.serve.Goals as goal
 
 pub make_turns-requires : goal.make_turns-requires
 make_turns-requires c =
