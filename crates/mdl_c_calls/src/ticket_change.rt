@@ -34,6 +34,7 @@ pub enum TicketChange {
 
 impl TicketChange {
     /// Makes the change of a context.
+    #[inline(always)]
     pub(crate) fn make(
         self,
         space: &mut CoreSpace,

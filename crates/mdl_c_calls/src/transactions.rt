@@ -226,7 +226,8 @@ pub fn gaz_one_context_upgrade(
     code
 }
 
-// Changes the tickets that the session's context keeps.
+// Changes the tickets that the session's context keeps. Which change it is, is known where it is called.
+#[inline(always)]
 fn change(alloc: Global, space: &mut OneSpace, who: u16, change: TicketChange) -> u32
     ensures { ServesContext who (changing_tickets change) done_code space.old.handle.manager result space.new.handle.manager Untold }
 {

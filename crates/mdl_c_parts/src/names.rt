@@ -11,6 +11,7 @@ use std::alloc::Global;
 use std::str;
 
 /// Returns the key of a table, or the code that says why it can't be made.
+#[inline(always)]
 pub fn table_of(alloc: Global, schema: &[u8], table: &[u8]) -> Result<Key, u32>
     ensures { MatchResult result
         (λ key. (IsUtf8 schema.now × IsUtf8 table.now) × (utf8_table_fault schema.now table.now ≡ None) × (key ≡ table_key schema.now table.now))
@@ -29,6 +30,7 @@ pub fn table_of(alloc: Global, schema: &[u8], table: &[u8]) -> Result<Key, u32>
 }
 
 /// Returns the key of a schema, or the code that says why it can't be made.
+#[inline(always)]
 pub fn schema_of(alloc: Global, schema: &[u8]) -> Result<Key, u32>
     ensures { MatchResult result
         (λ key. IsUtf8 schema.now × (utf8_name_fault schema.now ≡ None) × (key ≡ schema_key schema.now))
@@ -44,6 +46,7 @@ pub fn schema_of(alloc: Global, schema: &[u8]) -> Result<Key, u32>
 }
 
 /// Returns the key of a user-level lock, or the code that says why it can't be made.
+#[inline(always)]
 pub fn user_lock_of(alloc: Global, name: &[u8]) -> Result<Key, u32>
     ensures { MatchResult result
         (λ key. IsUtf8 name.now × (utf8_name_fault name.now ≡ None) × (key ≡ user_lock_key name.now))
@@ -60,6 +63,7 @@ pub fn user_lock_of(alloc: Global, name: &[u8]) -> Result<Key, u32>
 
 /// Returns the key in the namespace of this number, or the code that says why it can't be made. It reads only the names that keys of the namespace
 /// have. The name of a user-level lock is passed as `schema`.
+#[inline(always)]
 pub fn key_of(alloc: Global, namespace: u8, schema: &[u8], table: &[u8]) -> Result<Key, u32>
     ensures { MatchResult result
         (λ key. NamedIn (namespace_at namespace) schema.now table.now (λ name. key ≡ name) (λ _. ⊥))

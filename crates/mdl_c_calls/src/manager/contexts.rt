@@ -167,6 +167,7 @@ impl ServedSpace {
     }
 
     /// Changes the tickets that the session's context keeps.
+    #[inline(always)]
     pub fn change(
         &mut self,
         who: u16,
