@@ -654,16 +654,34 @@ def in_order(library, starts):
 
 
 def text_of(definition):
-    """Returns a definition as it stands in its file, with the comment above it. A type of the code only has a place."""
+    """Returns a definition as it stands in its file, with the comment above it. A definition within another one is indented."""
     if definition.is_declared:
-        return ""
+        return text_of_type(definition)
     lines = (CRATES / definition.crate / f"{definition.file}.antt").read_text().split("\n")
-    at = next(i for i, line in enumerate(lines) if (head := HEAD.match(line.strip())) and head[2] == definition.name)
-    first = at
-    while first > 0 and lines[first - 1].lstrip().startswith("--"):
-        first -= 1
+    heads = ((i, HEAD.match(line.lstrip())) for i, line in enumerate(lines))
+    found = [i for i, head in heads if head and head[2] == definition.name]
+    at = min(found, key=lambda i: (lines[i].startswith(" "), i))
+    first = comment_above(lines, at, "--")
     last = next((i for i, line in enumerate(lines[at:], at) if not line.strip()), len(lines))
     return "\n".join(lines[first:last]) + "\n"
+
+
+def text_of_type(definition):
+    """Returns a type of the code as it stands there, with the comment above it. Nothing if a macro writes it."""
+    lines = (CRATES / definition.crate / f"{definition.file}.rt").read_text().split("\n")
+    head = re.compile(rf"(pub(\([a-z]+\))? )?(struct|enum|union) {re.escape(definition.name)}\b")
+    at = next((i for i, line in enumerate(lines) if head.match(line)), None)
+    if at is None:
+        return ""
+    last = at if lines[at].endswith((";", "}")) else next(i for i, line in enumerate(lines[at:], at) if line.startswith(("}", ")")))
+    return "\n".join(lines[comment_above(lines, at, ("//", "#[")) : last + 1]) + "\n"
+
+
+def comment_above(lines, at, marks):
+    """Returns the index of the first of the lines above one that begin with these marks, or its own."""
+    while at > 0 and lines[at - 1].lstrip().startswith(marks):
+        at -= 1
+    return at
 
 
 def print_read(figures, name, clause=None):
@@ -672,7 +690,8 @@ def print_read(figures, name, clause=None):
     function = next((f for f in figures.library.code.functions if f.crate == crate and f.name == short and f.is_public), None)
     clauses = [it for it in function.clauses if clause in (None, *it.split()[1:2])] if function else []
     if not clauses:
-        print(f"there is no {name}{clause and f', or it has no clause {clause}' or ''}", file=sys.stderr)
+        named = ", ".join(words[1] for it in function.clauses if (words := it.split())[1:2] and words[1] != "{") if function else ""
+        print(f"{name} has no clause {clause}: {named}" if function else f"there is no public function {name}: write CRATE::NAME", file=sys.stderr)
         return 1
     definitions = in_order(figures.library, dataclasses.replace(function, clauses=tuple(clauses)).named(figures.library))
     print(*clauses, "", sep="\n")
